@@ -21,14 +21,14 @@ pub record Parts {K : Type 0} (t : K → Bool) (ks : List K) (n : ℕ) : Type 0 
   pub after : (k : ℕ) (d : K) → n ≤ k → k < length ks → t (getD ks k d) ≡ false
 
 module _ {K : Type 0} (t : K → Bool) (x : K) (ks : List K) where
-  tail-zero : Parts t (x ∷ ks) 0 → Parts t ks 0
+  pub tail-zero : Parts t (x ∷ ks) 0 → Parts t ks 0
   tail-zero h = record {
     within = omega arith;
     before = λ k d l. absurd (omega arith);
     after = λ k d l m. h .after (suc k) d (omega arith) (omega arith);
   }
 
-  tail-suc : (n : ℕ) → Parts t (x ∷ ks) (suc n) → Parts t ks n
+  pub tail-suc : (n : ℕ) → Parts t (x ∷ ks) (suc n) → Parts t ks n
   tail-suc n h = record {
     within = (let w = h .within in omega arith);
     before = λ k d l. h .before (suc k) d (omega arith);
@@ -42,13 +42,13 @@ module _ {K : Type 0} (t : K → Bool) (x : K) (ks : List K) where
     after = λ k d l m. misses k d l m;
   }
     where
-    hits : (k : ℕ) (d : K) → k < suc n → t (getD (x ∷ ks) k d) ≡ true
-    hits zero d l = e
-    hits (suc k) d l = h .before k d (omega arith)
+      hits : (k : ℕ) (d : K) → k < suc n → t (getD (x ∷ ks) k d) ≡ true
+      hits zero d l = e
+      hits (suc k) d l = h .before k d (omega arith)
 
-    misses : (k : ℕ) (d : K) → suc n ≤ k → k < length (x ∷ ks) → t (getD (x ∷ ks) k d) ≡ false
-    misses zero d l m = absurd (omega arith)
-    misses (suc k) d l m = h .after k d (omega arith) (omega arith)
+      misses : (k : ℕ) (d : K) → suc n ≤ k → k < length (x ∷ ks) → t (getD (x ∷ ks) k d) ≡ false
+      misses zero d l m = absurd (omega arith)
+      misses (suc k) d l m = h .after k d (omega arith) (omega arith)
 
 -- that index is how many pass
 pub parted : {K : Type 0} (t : K → Bool) (ks : List K) (n : ℕ) → Parts t ks n → n ≡ count t ks
@@ -68,12 +68,12 @@ parts t [] f = record { within = omega arith; before = λ k d l. absurd (omega a
 parts {K} t (x ∷ ks) f =
     ⊎-elim
     (λ e.
-      let ih : Parts t ks (count t ks) = parts t ks (λ i j d a b. f (suc i) (suc j) d (omega arith) (omega arith)) in
-      let n : suc (count t ks) ≡ count t (x ∷ ks) = omega arith ∙ sym (ap (λ b. cond b 1 0 + count t ks) e) in
-      subst (Parts t (x ∷ ks)) n (more-hit t x ks (count t ks) e ih))
+    let ih : Parts t ks (count t ks) = parts t ks (λ i j d a b. f (suc i) (suc j) d (omega arith) (omega arith)) in
+    let n : suc (count t ks) ≡ count t (x ∷ ks) = omega arith ∙ sym (ap (λ b. cond b 1 0 + count t ks) e) in
+    subst (Parts t (x ∷ ks)) n (more-hit t x ks (count t ks) e ih))
     (λ e.
-      let h : Parts t (x ∷ ks) 0 = record { within = omega arith; before = λ k d l. absurd (omega arith); after = λ k d l m. f 0 k d (omega arith) m e } in
-      subst (Parts t (x ∷ ks)) (parted t (x ∷ ks) 0 h) h)
+    let h : Parts t (x ∷ ks) 0 = record { within = omega arith; before = λ k d l. absurd (omega arith); after = λ k d l m. f 0 k d (omega arith) m e } in
+    subst (Parts t (x ∷ ks)) (parted t (x ∷ ks) 0 h) h)
     (cases-bool (t x))
 
 module _ {K : Type 0} {lt : K → K → Bool} (o : Total lt) (ks : List K) (key : K) (up : Sorted lt ks) where

@@ -69,7 +69,7 @@ module _ {P V : Type 0} {lt : P → P → Bool} (o : Total lt) where
     same-bare =
         extensional o (bare es) (bare fs) (subst (Sorted lt) (sym (places-bare es)) u) (subst (Sorted lt) (sym (places-bare fs)) w)
         (λ q. ticks (run lt (bare es) q) (run lt (bare fs) q)
-          (ap length (run-bare lt es q) ∙ length-map (run lt es q) (λ _. tt) ∙ n q ∙ sym (length-map (run lt fs q) (λ _. tt)) ∙ sym (ap length (run-bare lt fs q))))
+        (ap length (run-bare lt es q) ∙ length-map (run lt es q) (λ _. tt) ∙ n q ∙ sym (length-map (run lt fs q) (λ _. tt)) ∙ sym (ap length (run-bare lt fs q))))
 
     pub same-keys : keys lt es ≡ keys lt fs
     same-keys = tally-is lt es ∙ sym (tally-bare lt es) ∙ ap (tally lt) same-bare ∙ tally-bare lt fs ∙ sym (tally-is lt fs)
@@ -117,9 +117,9 @@ module _ {P V : Type 0} {lt : P → P → Bool} (o : Total lt) where
   without-there p (e ∷ es) q ne =
       ⊎-elim
       (λ t.
-        let f : same lt (e .place) q ≡ false =
-          ⊎-elim (λ h. absurd (ne (sym (same-is o (e .place) q h) ∙ same-is o (e .place) p t))) (λ h. h) (cases-bool (same lt (e .place) q)) in
-        ap (λ xs. run lt xs q) (gone p e es t) ∙ without-there p es q ne ∙ sym (skip o e es q f))
+      let f : same lt (e .place) q ≡ false =
+      ⊎-elim (λ h. absurd (ne (sym (same-is o (e .place) q h) ∙ same-is o (e .place) p t))) (λ h. h) (cases-bool (same lt (e .place) q)) in
+      ap (λ xs. run lt xs q) (gone p e es t) ∙ without-there p es q ne ∙ sym (skip o e es q f))
       (λ f. ap (λ xs. run lt xs q) (stays p e es f) ∙ ap (λ xs. cond (same lt (e .place) q) (e .value ∷ xs) xs) (without-there p es q ne))
       (cases-bool (same lt (e .place) p))
 
@@ -146,12 +146,12 @@ module _ {P V : Type 0} {lt : P → P → Bool} (o : Total lt) where
   clear-is es fs p u w s =
       extensional o fs (without p es) w (rising-without p es u)
       (λ q.
-        ⊎-elim
-        (λ t. subst (λ x. run lt fs x ≡ run lt (without p es) x) (sym (same-is o q p t)) (s .here ∙ sym (without-here p es)))
-        (λ f.
-          let ne : q ≡ p → ⊥ = λ z. both-ways (same lt q p) f (ap (same lt q) (sym z) ∙ same-self o q) in
-          s .there q ne ∙ sym (without-there p es q ne))
-        (cases-bool (same lt q p)))
+      ⊎-elim
+      (λ t. subst (λ x. run lt fs x ≡ run lt (without p es) x) (sym (same-is o q p t)) (s .here ∙ sym (without-here p es)))
+      (λ f.
+      let ne : q ≡ p → ⊥ = λ z. both-ways (same lt q p) f (ap (same lt q) (sym z) ∙ same-self o q) in
+      s .there q ne ∙ sym (without-there p es q ne))
+      (cases-bool (same lt q p)))
 
   items-without : (p : P) (es : List (Entry P V)) → items es ≡ items (without p es) + length (run lt es p)
   items-without p [] = refl
@@ -168,18 +168,18 @@ module _ {P V : Type 0} {lt : P → P → Bool} (o : Total lt) where
       let ih = tally-without p es in
       ⊎-elim
       (λ t.
-        let at = same-is o (e .place) p t in
-        ap (λ q. cond (none (run lt es q)) 1 0 + tally lt es) at
-        ∙ ap (λ n. cond (none (run lt es p)) 1 0 + n) ih
-        ∙ flip (none (run lt es p)) (tally lt (without p es))
-        ∙ sym (ap (λ xs. tally lt xs + cond (none (run lt (e ∷ es) p)) 0 1) (gone p e es t) ∙ ap (λ xs. tally lt (without p es) + cond (none xs) 0 1) (hold o e es p t)))
+      let at = same-is o (e .place) p t in
+      ap (λ q. cond (none (run lt es q)) 1 0 + tally lt es) at
+      ∙ ap (λ n. cond (none (run lt es p)) 1 0 + n) ih
+      ∙ flip (none (run lt es p)) (tally lt (without p es))
+      ∙ sym (ap (λ xs. tally lt xs + cond (none (run lt (e ∷ es) p)) 0 1) (gone p e es t) ∙ ap (λ xs. tally lt (without p es) + cond (none xs) 0 1) (hold o e es p t)))
       (λ f.
-        let ne : e .place ≡ p → ⊥ = λ z. both-ways (same lt (e .place) p) f (ap (same lt (e .place)) (sym z) ∙ same-self o (e .place)) in
-        ap (λ n. cond (none (run lt es (e .place))) 1 0 + n) ih
-        ∙ omega arith
-        ∙ sym (ap (λ xs. tally lt xs + cond (none (run lt (e ∷ es) p)) 0 1) (stays p e es f)
-          ∙ ap (λ xs. cond (none xs) 1 0 + tally lt (without p es) + cond (none (run lt (e ∷ es) p)) 0 1) (without-there p es (e .place) ne)
-          ∙ ap (λ xs. cond (none (run lt es (e .place))) 1 0 + tally lt (without p es) + cond (none xs) 0 1) (skip o e es p f)))
+      let ne : e .place ≡ p → ⊥ = λ z. both-ways (same lt (e .place) p) f (ap (same lt (e .place)) (sym z) ∙ same-self o (e .place)) in
+      ap (λ n. cond (none (run lt es (e .place))) 1 0 + n) ih
+      ∙ omega arith
+      ∙ sym (ap (λ xs. tally lt xs + cond (none (run lt (e ∷ es) p)) 0 1) (stays p e es f)
+      ∙ ap (λ xs. cond (none xs) 1 0 + tally lt (without p es) + cond (none (run lt (e ∷ es) p)) 0 1) (without-there p es (e .place) ne)
+      ∙ ap (λ xs. cond (none (run lt es (e .place))) 1 0 + tally lt (without p es) + cond (none xs) 0 1) (skip o e es p f)))
       (cases-bool (same lt (e .place) p))
 
   pub items-clear : (es fs : List (Entry P V)) (p : P) → Rising lt es → Rising lt fs → Clears lt es fs p → items es ≡ items fs + length (run lt es p)

@@ -51,6 +51,10 @@ none-more (y ∷ xs) ys x = refl
 
 -- ---- the places held, counted at the last entry of each
 
+one-at-most : (b : Bool) → cond b 1 0 ≤ 1
+one-at-most true = omega arith
+one-at-most false = omega arith
+
 one-more : {P : Type 0} (b : Bool) (p : P) (ps : List P) → length (cond b (p ∷ ps) ps) ≡ cond b 1 0 + length ps
 one-more true p ps = omega arith
 one-more false p ps = omega arith
@@ -64,6 +68,13 @@ module _ {P V : Type 0} (lt : P → P → Bool) where
   tally-is [] = refl
   tally-is (e ∷ es) =
       one-more (none (run lt es (e .place))) (e .place) (held lt es) ∙ ap (λ n. cond (none (run lt es (e .place))) 1 0 + n) (tally-is es)
+
+  tally-few : (es : List (Entry P V)) → tally es ≤ items es
+  tally-few [] = omega arith
+  tally-few (e ∷ es) = omega (arith, one-at-most (none (run lt es (e .place))), tally-few es)
+
+  pub keys-few : (es : List (Entry P V)) → keys lt es ≤ items es
+  keys-few es = omega (arith, tally-is es, tally-few es)
 
 -- ---- the test of one place
 
@@ -160,7 +171,7 @@ module _ {P : Type 0} {lt : P → P → Bool} (o : Total lt) where
     run-take-nil (suc n) p (x ∷ es) e = let z = ap length e in absurd (omega arith)
 
     module _ (p : P) (e : Entry P V) (es : List (Entry P V)) (ih : (j : ℕ) → j ≤ length (run lt es p) → length (run lt (take (below lt (places es) p + j) es) p) ≡ j)
-      (z : below lt (places (e ∷ es)) p ≡ 0) (y : below lt (places es) p ≡ 0) (s : same lt (e .place) p ≡ true) where
+        (z : below lt (places (e ∷ es)) p ≡ 0) (y : below lt (places es) p ≡ 0) (s : same lt (e .place) p ≡ true) where
       cut-here : (i : ℕ) → i ≤ length (run lt (e ∷ es) p) → length (run lt (take (below lt (places (e ∷ es)) p + i) (e ∷ es)) p) ≡ i
       cut-here zero le = let n : below lt (places (e ∷ es)) p + 0 ≡ 0 = omega arith in ap (λ m. length (run lt (take m (e ∷ es)) p)) n
       cut-here (suc j) le =
@@ -175,22 +186,22 @@ module _ {P : Type 0} {lt : P → P → Bool} (o : Total lt) where
     cut p (e ∷ es) u i le =
         ⊎-elim
         (λ a.
-          let n : below lt (places (e ∷ es)) p + i ≡ suc (below lt (places es) p + i) = ap (λ b. cond b 1 0 + below lt (places es) p + i) a ∙ omega arith in
-          let s : same lt (e .place) p ≡ false = apart-before (e .place) p a in
-          let r = ap length (skip e es p s) in
-          ap (λ m. length (run lt (take m (e ∷ es)) p)) n
-          ∙ ap length (skip e (take (below lt (places es) p + i) es) p s)
-          ∙ cut p es (u .1) i (omega arith))
+        let n : below lt (places (e ∷ es)) p + i ≡ suc (below lt (places es) p + i) = ap (λ b. cond b 1 0 + below lt (places es) p + i) a ∙ omega arith in
+        let s : same lt (e .place) p ≡ false = apart-before (e .place) p a in
+        let r = ap length (skip e es p s) in
+        ap (λ m. length (run lt (take m (e ∷ es)) p)) n
+        ∙ ap length (skip e (take (below lt (places es) p + i) es) p s)
+        ∙ cut p es (u .1) i (omega arith))
         (λ a.
-          let f : From lt p (places es) = from-on (e .place) p (places es) a (u .0) in
-          let z : below lt (places (e ∷ es)) p ≡ 0 = below-none lt p (places (e ∷ es)) (a, f) in
-          ⊎-elim
-          (λ b.
-            let r = ap length (run-after p (e .place) (e ∷ es) b (o .irrefl (e .place), u .0)) in
-            let n : below lt (places (e ∷ es)) p + i ≡ 0 = omega arith in
-            ap (λ m. length (run lt (take m (e ∷ es)) p)) n ∙ omega arith)
-          (λ b. cut-here p e es (cut p es (u .1)) z (below-none lt p (places es) f) (same-ties (e .place) p a b) i le)
-          (cases-bool (lt p (e .place))))
+        let f : From lt p (places es) = from-on (e .place) p (places es) a (u .0) in
+        let z : below lt (places (e ∷ es)) p ≡ 0 = below-none lt p (places (e ∷ es)) (a, f) in
+        ⊎-elim
+        (λ b.
+        let r = ap length (run-after p (e .place) (e ∷ es) b (o .irrefl (e .place), u .0)) in
+        let n : below lt (places (e ∷ es)) p + i ≡ 0 = omega arith in
+        ap (λ m. length (run lt (take m (e ∷ es)) p)) n ∙ omega arith)
+        (λ b. cut-here p e es (cut p es (u .1)) z (below-none lt p (places es) f) (same-ties (e .place) p a b) i le)
+        (cases-bool (lt p (e .place))))
         (cases-bool (lt (e .place) p))
 
     -- the value is put in at i of its run
@@ -223,16 +234,16 @@ module _ {P : Type 0} {lt : P → P → Bool} (o : Total lt) where
         ⊎-elim
         (λ a. absurd (never p (e .value) (run lt es p) (sym (run-after p q (f ∷ fs) a (o .irrefl q, w .0)) ∙ sym (h p) ∙ hold e es p (same-self p))))
         (λ a.
-          ⊎-elim
-          (λ b. absurd (never q (f .value) (run lt fs q) (sym (run-after q p (e ∷ es) b (o .irrefl p, u .0)) ∙ h q ∙ hold f fs q (same-self q))))
-          (λ b.
-            let at : e .place ≡ f .place = o .total p q a b in
-            let both : e .value ∷ run lt es p ≡ f .value ∷ run lt fs p = sym (hold e es p (same-self p)) ∙ h p ∙ hold f fs p (ap (λ x. same lt x p) (sym at) ∙ same-self p) in
-            let vs : e .value ≡ f .value = cc in
-            let rs : run lt es p ≡ run lt fs p = cc in
-            let ih : es ≡ fs = same-runs es fs (u .1) (w .1) (tails e f es fs at rs h) in
-            λ k. record { place = at k; value = vs k } ∷ ih k)
-          (cases-bool (lt q p)))
+        ⊎-elim
+        (λ b. absurd (never q (f .value) (run lt fs q) (sym (run-after q p (e ∷ es) b (o .irrefl p, u .0)) ∙ h q ∙ hold f fs q (same-self q))))
+        (λ b.
+        let at : e .place ≡ f .place = o .total p q a b in
+        let both : e .value ∷ run lt es p ≡ f .value ∷ run lt fs p = sym (hold e es p (same-self p)) ∙ h p ∙ hold f fs p (ap (λ x. same lt x p) (sym at) ∙ same-self p) in
+        let vs : e .value ≡ f .value = cc in
+        let rs : run lt es p ≡ run lt fs p = cc in
+        let ih : es ≡ fs = same-runs es fs (u .1) (w .1) (tails e f es fs at rs h) in
+        λ k. record { place = at k; value = vs k } ∷ ih k)
+        (cases-bool (lt q p)))
         (cases-bool (lt p q))
 
     pub extensional : (es fs : List (Entry P V)) → Rising lt es → Rising lt fs → ((q : P) → run lt es q ≡ run lt fs q) → es ≡ fs
@@ -248,20 +259,20 @@ module _ {P : Type 0} {lt : P → P → Bool} (o : Total lt) where
         let ih : tally lt (inserted es n x) ≡ tally lt es + cond (none (run lt es p)) 1 0 = tally-in n es p v in
         ⊎-elim
         (λ t.
-          let at : e .place ≡ p = same-is (e .place) p t in
-          let a : none (run lt (inserted es n x) (e .place)) ≡ false =
-            ap (λ q. none (run lt (inserted es n x) q)) at ∙ ap none (run-in es n p v) ∙ none-more (run lt (take n es) p) (run lt (drop n es) p) v in
-          let b : none (run lt (e ∷ es) p) ≡ false = ap none (hold e es p t) in
-          let c : none (run lt es (e .place)) ≡ none (run lt es p) = ap (λ q. none (run lt es q)) at in
-          ap (λ y. cond y 1 0 + tally lt (inserted es n x)) a
-          ∙ omega arith
-          ∙ sym (ap (λ y. cond (none (run lt es (e .place))) 1 0 + tally lt es + cond y 1 0) b ∙ ap (λ y. cond y 1 0 + tally lt es + 0) c))
+        let at : e .place ≡ p = same-is (e .place) p t in
+        let a : none (run lt (inserted es n x) (e .place)) ≡ false =
+        ap (λ q. none (run lt (inserted es n x) q)) at ∙ ap none (run-in es n p v) ∙ none-more (run lt (take n es) p) (run lt (drop n es) p) v in
+        let b : none (run lt (e ∷ es) p) ≡ false = ap none (hold e es p t) in
+        let c : none (run lt es (e .place)) ≡ none (run lt es p) = ap (λ q. none (run lt es q)) at in
+        ap (λ y. cond y 1 0 + tally lt (inserted es n x)) a
+        ∙ omega arith
+        ∙ sym (ap (λ y. cond (none (run lt es (e .place))) 1 0 + tally lt es + cond y 1 0) b ∙ ap (λ y. cond y 1 0 + tally lt es + 0) c))
         (λ f.
-          let ne : e .place ≡ p → ⊥ = λ z. both-ways (same lt (e .place) p) f (ap (same lt (e .place)) (sym z) ∙ same-self (e .place)) in
-          let a : run lt (inserted es n x) (e .place) ≡ run lt es (e .place) = run-there es n x (e .place) ne in
-          ap (λ y. cond (none y) 1 0 + tally lt (inserted es n x)) a
-          ∙ omega arith
-          ∙ sym (ap (λ y. cond (none (run lt es (e .place))) 1 0 + tally lt es + cond (none y) 1 0) (skip e es p f)))
+        let ne : e .place ≡ p → ⊥ = λ z. both-ways (same lt (e .place) p) f (ap (same lt (e .place)) (sym z) ∙ same-self (e .place)) in
+        let a : run lt (inserted es n x) (e .place) ≡ run lt es (e .place) = run-there es n x (e .place) ne in
+        ap (λ y. cond (none y) 1 0 + tally lt (inserted es n x)) a
+        ∙ omega arith
+        ∙ sym (ap (λ y. cond (none (run lt es (e .place))) 1 0 + tally lt es + cond (none y) 1 0) (skip e es p f)))
         (cases-bool (same lt (e .place) p))
 
     -- ---- the order is kept
@@ -279,7 +290,7 @@ module _ {P : Type 0} {lt : P → P → Bool} (o : Total lt) where
     UpIn n es x = Up lt (places (inserted es n x))
 
     module _ (p : P) (v : V) (e : Entry P V) (es : List (Entry P V)) (u : Up lt (places (e ∷ es))) (ih : (j : ℕ) → j ≤ length (run lt es p) → UpIn (below lt (places es) p + j) es (entry p v))
-      (z : below lt (places (e ∷ es)) p ≡ 0) (f : From lt p (places (e ∷ es))) (b : lt p (e .place) ≡ false) (s : same lt (e .place) p ≡ true) where
+        (z : below lt (places (e ∷ es)) p ≡ 0) (f : From lt p (places (e ∷ es))) (b : lt p (e .place) ≡ false) (s : same lt (e .place) p ≡ true) where
       up-here : (i : ℕ) → i ≤ length (run lt (e ∷ es) p) → UpIn (below lt (places (e ∷ es)) p + i) (e ∷ es) (entry p v)
       up-here zero le =
           let n : 0 ≡ below lt (places (e ∷ es)) p + 0 = omega arith in
@@ -296,21 +307,21 @@ module _ {P : Type 0} {lt : P → P → Bool} (o : Total lt) where
     up-in p v (e ∷ es) u i le =
         ⊎-elim
         (λ a.
-          let n : suc (below lt (places es) p + i) ≡ below lt (places (e ∷ es)) p + i = omega arith ∙ sym (ap (λ b. cond b 1 0 + below lt (places es) p + i) a) in
-          let s : same lt (e .place) p ≡ false = apart-before (e .place) p a in
-          let r = ap length (skip e es p s) in
-          subst (λ m. UpIn m (e ∷ es) (entry p v)) n
-          (from-in (below lt (places es) p + i) es (e .place) (entry p v) (u .0) (before-not-after o (e .place) p a), up-in p v es (u .1) i (omega arith)))
+        let n : suc (below lt (places es) p + i) ≡ below lt (places (e ∷ es)) p + i = omega arith ∙ sym (ap (λ b. cond b 1 0 + below lt (places es) p + i) a) in
+        let s : same lt (e .place) p ≡ false = apart-before (e .place) p a in
+        let r = ap length (skip e es p s) in
+        subst (λ m. UpIn m (e ∷ es) (entry p v)) n
+        (from-in (below lt (places es) p + i) es (e .place) (entry p v) (u .0) (before-not-after o (e .place) p a), up-in p v es (u .1) i (omega arith)))
         (λ a.
-          let f : From lt p (places (e ∷ es)) = (a, from-on (e .place) p (places es) a (u .0)) in
-          let z : below lt (places (e ∷ es)) p ≡ 0 = below-none lt p (places (e ∷ es)) f in
-          ⊎-elim
-          (λ b.
-            let r = ap length (run-after p (e .place) (e ∷ es) b (o .irrefl (e .place), u .0)) in
-            let n : 0 ≡ below lt (places (e ∷ es)) p + i = omega arith in
-            subst (λ m. UpIn m (e ∷ es) (entry p v)) n (f, u))
-          (λ b. up-here p v e es u (up-in p v es (u .1)) z f b (same-ties (e .place) p a b) i le)
-          (cases-bool (lt p (e .place))))
+        let f : From lt p (places (e ∷ es)) = (a, from-on (e .place) p (places es) a (u .0)) in
+        let z : below lt (places (e ∷ es)) p ≡ 0 = below-none lt p (places (e ∷ es)) f in
+        ⊎-elim
+        (λ b.
+        let r = ap length (run-after p (e .place) (e ∷ es) b (o .irrefl (e .place), u .0)) in
+        let n : 0 ≡ below lt (places (e ∷ es)) p + i = omega arith in
+        subst (λ m. UpIn m (e ∷ es) (entry p v)) n (f, u))
+        (λ b. up-here p v e es u (up-in p v es (u .1)) z f b (same-ties (e .place) p a b) i le)
+        (cases-bool (lt p (e .place))))
         (cases-bool (lt (e .place) p))
 
     pub rising-in : (es : List (Entry P V)) (p : P) (i : ℕ) (v : V) → Rising lt es → i ≤ length (run lt es p) → Rising lt (inserted es (below lt (places es) p + i) (entry p v))
@@ -324,12 +335,12 @@ module _ {P : Type 0} {lt : P → P → Bool} (o : Total lt) where
         let k : Gains lt es gs p i v = gains es p i v u (g .within) in
         extensional fs gs w (rising-in es p i v u (g .within))
         (λ q.
-          ⊎-elim
-          (λ t. subst (λ x. run lt fs x ≡ run lt gs x) (sym (same-is q p t)) (g .here ∙ sym (k .here)))
-          (λ f.
-            let ne : q ≡ p → ⊥ = λ z. both-ways (same lt q p) f (ap (same lt q) (sym z) ∙ same-self q) in
-            g .there q ne ∙ sym (k .there q ne))
-          (cases-bool (same lt q p)))
+        ⊎-elim
+        (λ t. subst (λ x. run lt fs x ≡ run lt gs x) (sym (same-is q p t)) (g .here ∙ sym (k .here)))
+        (λ f.
+        let ne : q ≡ p → ⊥ = λ z. both-ways (same lt q p) f (ap (same lt q) (sym z) ∙ same-self q) in
+        g .there q ne ∙ sym (k .there q ne))
+        (cases-bool (same lt q p)))
 
     pub items-put : (es fs : List (Entry P V)) (p : P) (i : ℕ) (v : V) → Rising lt es → Rising lt fs → Gains lt es fs p i v → items fs ≡ items es + 1
     items-put es fs p i v u w g = ap length (put-is es fs p i v u w g) ∙ length-in (below lt (places es) p + i) es (entry p v)
@@ -377,15 +388,15 @@ module _ {P : Type 0} {lt : P → P → Bool} (o : Total lt) where
         ⊎-elim
         (λ a. let n = ap length (skip e es p (apart-before (e .place) p a)) in let b = ap (λ b. cond b 1 0 + below lt (places es) p) a in omega arith)
         (λ a.
-          let b = ap (λ b. cond b 1 0 + below lt (places es) p) a in
-          ⊎-elim (λ t. let n = ap length (hold e es p t) in omega arith) (λ f. let n = ap length (skip e es p f) in omega arith) (cases-bool (same lt (e .place) p)))
+        let b = ap (λ b. cond b 1 0 + below lt (places es) p) a in
+        ⊎-elim (λ t. let n = ap length (hold e es p t) in omega arith) (λ f. let n = ap length (skip e es p f) in omega arith) (cases-bool (same lt (e .place) p)))
         (cases-bool (lt (e .place) p))
 
     abbrev Stands : P → List (Entry P V) → ℕ → V → Type 0
     Stands p es i v = getD es (below lt (places es) p + i) (entry p v) ≡ entry p (getD (run lt es p) i v)
 
     module _ (p : P) (v : V) (e : Entry P V) (es : List (Entry P V)) (ih : (j : ℕ) → j < length (run lt es p) → Stands p es j v)
-      (z : below lt (places (e ∷ es)) p ≡ 0) (y : below lt (places es) p ≡ 0) (s : same lt (e .place) p ≡ true) where
+        (z : below lt (places (e ∷ es)) p ≡ 0) (y : below lt (places es) p ≡ 0) (s : same lt (e .place) p ≡ true) where
       stands-here : (i : ℕ) → i < length (run lt (e ∷ es) p) → Stands p (e ∷ es) i v
       stands-here zero l =
           let n : below lt (places (e ∷ es)) p + 0 ≡ 0 = omega arith in
@@ -400,16 +411,16 @@ module _ {P : Type 0} {lt : P → P → Bool} (o : Total lt) where
     stands p v (e ∷ es) u i l =
         ⊎-elim
         (λ a.
-          let n : below lt (places (e ∷ es)) p + i ≡ suc (below lt (places es) p + i) = ap (λ b. cond b 1 0 + below lt (places es) p + i) a ∙ omega arith in
-          let s : run lt (e ∷ es) p ≡ run lt es p = skip e es p (apart-before (e .place) p a) in
-          let r = ap length s in
-          ap (λ m. getD (e ∷ es) m (entry p v)) n ∙ stands p v es (u .1) i (omega arith) ∙ ap (λ ys. entry p (getD ys i v)) (sym s))
+        let n : below lt (places (e ∷ es)) p + i ≡ suc (below lt (places es) p + i) = ap (λ b. cond b 1 0 + below lt (places es) p + i) a ∙ omega arith in
+        let s : run lt (e ∷ es) p ≡ run lt es p = skip e es p (apart-before (e .place) p a) in
+        let r = ap length s in
+        ap (λ m. getD (e ∷ es) m (entry p v)) n ∙ stands p v es (u .1) i (omega arith) ∙ ap (λ ys. entry p (getD ys i v)) (sym s))
         (λ a.
-          let f : From lt p (places es) = from-on (e .place) p (places es) a (u .0) in
-          ⊎-elim
-          (λ b. let r = ap length (run-after p (e .place) (e ∷ es) b (o .irrefl (e .place), u .0)) in absurd (omega arith))
-          (λ b. stands-here p v e es (stands p v es (u .1)) (below-none lt p (places (e ∷ es)) (a, f)) (below-none lt p (places es) f) (same-ties (e .place) p a b) i l)
-          (cases-bool (lt p (e .place))))
+        let f : From lt p (places es) = from-on (e .place) p (places es) a (u .0) in
+        ⊎-elim
+        (λ b. let r = ap length (run-after p (e .place) (e ∷ es) b (o .irrefl (e .place), u .0)) in absurd (omega arith))
+        (λ b. stands-here p v e es (stands p v es (u .1)) (below-none lt p (places (e ∷ es)) (a, f)) (below-none lt p (places es) f) (same-ties (e .place) p a b) i l)
+        (cases-bool (lt p (e .place))))
         (cases-bool (lt (e .place) p))
 
     pub at-run : (es : List (Entry P V)) (p : P) (i : ℕ) (v : V) → Rising lt es → i < length (run lt es p) → v ≡ getD (run lt es p) i v → getD es (below lt (places es) p + i) (entry p v) ≡ entry p v
@@ -459,12 +470,13 @@ module _ {P : Type 0} {lt : P → P → Bool} (o : Total lt) where
         let g : Gains lt fs es p i w = loses es p i w up li read in
         let le : i ≤ length (run lt fs p) = g .within in
         let is : set es m (entry p v) ≡ inserted fs m (entry p v) = set-in m es (entry p v) lm in
-        let n : length (run lt (take m fs) p) ≡ i = ap (λ ys. length (run lt ys p)) (take-out m es) ∙ cut p es (sorted-up lt (places es) up) i (omega arith) in
-        (subst (Sorted lt) (sym (places-set m es p v w lm at)) up,
-         record {
-           within = li;
-           here =
-             ap (λ ys. run lt ys p) is ∙ run-here fs m p v i n
-             ∙ sym (ap (λ ys. set ys i v) (g .here) ∙ set-at (take i (run lt fs p)) w (drop i (run lt fs p)) v i (length-take-le i (run lt fs p) le));
-           there = λ q ne. ap (λ ys. run lt ys q) is ∙ run-there fs m (entry p v) q ne ∙ sym (g .there q ne);
-         })
+        let n : length (run lt (take m fs) p) ≡ i = ap (λ ys. length (run lt ys p)) (take-out m es) ∙ cut p es (sorted-up lt (places es) up) i (omega arith) in (
+          subst (Sorted lt) (sym (places-set m es p v w lm at)) up,
+          record {
+            within = li;
+            here =
+                ap (λ ys. run lt ys p) is ∙ run-here fs m p v i n
+                ∙ sym (ap (λ ys. set ys i v) (g .here) ∙ set-at (take i (run lt fs p)) w (drop i (run lt fs p)) v i (length-take-le i (run lt fs p) le));
+            there = λ q ne. ap (λ ys. run lt ys q) is ∙ run-there fs m (entry p v) q ne ∙ sym (g .there q ne);
+          },
+        )

@@ -63,12 +63,12 @@ then-carries p q s a b c Greater m f e g h j = absurd (true≢false (ap isGt h))
 pub places-lawful : {K : Type 0} (cmp : K → K → Ordering) → Lawful cmp → Lawful (place-order cmp)
 places-lawful cmp l = record {
   turned = λ x y.
-    (λ i. thenBy (unsigned .flip (x .partition) (y .partition) i) (l .turned (x .key) (y .key) i))
-    ∙ then-turned (rank (y .partition) (x .partition)) (cmp (y .key) (x .key));
+      (λ i. thenBy (unsigned .flip (x .partition) (y .partition) i) (l .turned (x .key) (y .key) i))
+      ∙ then-turned (rank (y .partition) (x .partition)) (cmp (y .key) (x .key));
   same = λ x y e.
-    let b = both-equal (rank (x .partition) (y .partition)) (cmp (x .key) (y .key)) e in
-    λ i. record { partition = rank-same (x .partition) (y .partition) (b .0) i; key = l .same (x .key) (y .key) (b .1) i };
+      let b = both-equal (rank (x .partition) (y .partition)) (cmp (x .key) (y .key)) e in
+      λ i. record { partition = rank-same (x .partition) (y .partition) (b .0) i; key = l .same (x .key) (y .key) (b .1) i };
   carries = λ x y z.
-    then-carries (x .partition) (y .partition) (z .partition) (cmp (x .key) (y .key)) (cmp (y .key) (z .key)) (cmp (x .key) (z .key))
-    (rank (x .partition) (y .partition)) (rank (y .partition) (z .partition)) (l .carries (x .key) (y .key) (z .key)) refl refl;
+      then-carries (x .partition) (y .partition) (z .partition) (cmp (x .key) (y .key)) (cmp (y .key) (z .key)) (cmp (x .key) (z .key))
+      (rank (x .partition) (y .partition)) (rank (y .partition) (z .partition)) (l .carries (x .key) (y .key) (z .key)) refl refl;
 }
