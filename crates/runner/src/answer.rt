@@ -4,11 +4,11 @@ use crate::subkey::SubKey;
 use crate::value::Value;
 use book::Counts;
 use keys::Place;
-use script::Reason;
-use script::ReasonDisplay;
 use std::alloc::Global;
 use std::fmt;
 use std::fmt::Write;
+use words::Reason;
+use words::ReasonDisplay;
 
 // The answer to one line; a run is so many of the slots.
 #[derive(Drop)]

@@ -1,8 +1,8 @@
 // Why a command has no answer of its own.
-use script::Reason;
 use std::alloc::AllocError;
 use std::alloc::Refused;
 use store::Refusal;
+use words::Reason;
 
 // The book refused it, or the line is wrong.
 #[derive(Clone, Copy)]

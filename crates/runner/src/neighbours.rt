@@ -7,10 +7,10 @@ use crate::value::Value;
 use book::Book;
 use keys::Key;
 use keys::Place;
-use script::Reason;
 use std::alloc::Global;
 use translate::OrderedTranslator;
 use translate::Translator;
+use words::Reason;
 
 // An end of a book.
 #[derive(Clone, Copy)]

@@ -23,7 +23,6 @@ use keys::Label;
 use keys::Place;
 use script::Line;
 use script::Opening;
-use script::Reason;
 use script::StoreName;
 use script::TranslatorName;
 use script::ValuesName;
@@ -41,6 +40,7 @@ use translate::LabelsOrdered;
 use translate::LabelsTranslator;
 use translate::Prefix;
 use translate::Translator;
+use words::Reason;
 
 // One cell more than a table uses: a table over that many is void, as over any larger number.
 const CELLS: u64 = 65537;

@@ -6,11 +6,11 @@ use crate::answer::Report;
 use crate::open::open;
 use script::Command;
 use script::Line;
-use script::Reason;
 use script::read_script;
 use std::alloc::Global;
 use std::error::AnyError;
 use std::fmt;
+use words::Reason;
 
 // Answers line `at` while no book is open, and the lines of the book that it opens; says where it stopped.
 fn run_from(

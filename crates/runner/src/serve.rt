@@ -18,12 +18,12 @@ use keys::Place;
 use script::Call;
 use script::Command;
 use script::Line;
-use script::Reason;
-use script::SubkeyWord;
-use script::ValueWord;
 use std::alloc::Global;
 use std::fmt;
 use translate::Translator;
+use words::Reason;
+use words::SubkeyWord;
+use words::ValueWord;
 
 // How many slots are lent after an opening, and at the most.
 pub const SLOTS: usize = 65536;

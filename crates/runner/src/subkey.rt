@@ -3,9 +3,9 @@ use keys::Key;
 use keys::Label;
 use keys::LabelKey;
 use keys::NumberKey;
-use script::SubkeyWord;
 use std::fmt;
 use std::fmt::Write;
+use words::SubkeyWord;
 
 // A key that a word of a script can write.
 pub trait SubKey: Key {

@@ -1,8 +1,8 @@
 // The values that a script can book.
 use book::Weighing;
 use book::WeighingDisplay;
-use script::ValueWord;
 use std::fmt;
+use words::ValueWord;
 
 // A value that a word of a script can write.
 pub trait Value: Clone + Copy + Drop + fmt::Display {

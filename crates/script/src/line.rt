@@ -2,9 +2,9 @@
 ghost use Prim.Native.Nat.{_≤_};
 ghost use lib.ListN.{length};
 use crate::command::Command;
-use crate::reason::Reason;
 use std::alloc::AllocError;
 use std::alloc::Global;
+use words::Reason;
 
 // A line that is answered, with its number from 1 among all lines.
 #[derive(Drop)]

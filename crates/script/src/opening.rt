@@ -1,6 +1,6 @@
 // How a script opens a book.
-use crate::reason::Reason;
-use crate::words::Words;
+use words::Reason;
+use words::Words;
 
 #[derive(Clone, Copy, Debug)]
 pub enum TranslatorName {
@@ -23,7 +23,7 @@ pub enum StoreName {
 #[derive(Clone, Copy, Debug)]
 pub struct Opening {
     pub label: u32,
-    pub partitions: u64,
+    pub prefix: u64,
     pub translator: TranslatorName,
     pub values: ValuesName,
     pub store: StoreName,
@@ -65,7 +65,7 @@ impl Opening {
     pub(crate) fn read(words: &mut Words<'_>) -> Result<Opening, Reason> {
         Ok(Opening {
             label: words.small_number()?,
-            partitions: words.number()?,
+            prefix: words.number()?,
             translator: read_translator(words)?,
             values: read_values(words)?,
             store: read_store(words)?,

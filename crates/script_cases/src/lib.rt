@@ -5,6 +5,7 @@ mod shown;
 #[cfg(test)]
 mod tests {
     use crate::shown::check_shown;
+    use script::Call;
     use script::Command;
     use script::read_script;
     use std::alloc::AllocError;
@@ -258,15 +259,15 @@ mod tests {
         let table: [(&[u8], &str); 4] = [
             (
                 b"open 1 16 cap position side 1000",
-                "1 Open(Opening { label: 1, partitions: 16, translator: Cap, values: Position, store: Side { capacity: 1000 } })\n",
+                "1 Opening { label: 1, prefix: 16, translator: Cap, values: Position, store: Side { capacity: 1000 } }\n",
             ),
             (
                 b"open 4294967295 18446744073709551615 label weighing side 18446744073709551615",
-                "1 Open(Opening { label: 4294967295, partitions: 18446744073709551615, translator: Label, values: Weighing, store: Side { capacity: 18446744073709551615 } })\n",
+                "1 Opening { label: 4294967295, prefix: 18446744073709551615, translator: Label, values: Weighing, store: Side { capacity: 18446744073709551615 } }\n",
             ),
             (
                 b"open 0 0 fold position side 0",
-                "1 Open(Opening { label: 0, partitions: 0, translator: Fold, values: Position, store: Side { capacity: 0 } })\n",
+                "1 Opening { label: 0, prefix: 0, translator: Fold, values: Position, store: Side { capacity: 0 } }\n",
             ),
             (
                 b"open 4294967296 1 cap position side 1",
@@ -315,7 +316,7 @@ mod tests {
         let line = long_line(rt.alloc(), 100_000)?;
         let lines = read_script(rt.alloc(), line.as_bytes())?;
         check(lines.len() == 1)?;
-        let Ok(Command::Get { key }) = &lines[0].command else {
+        let Ok(Command::Call(Call::Get { key })) = &lines[0].command else {
             return Err(Fail::new("a key was expected"));
         };
         check(key.len() == 100_000)?;
@@ -327,10 +328,12 @@ mod tests {
         let lines = read_script(rt.alloc(), b"run 0 0000000000000010")?;
         check(lines.len() == 1)?;
         let Ok(
-            Command::Run {
-                partition: _,
-                subkey,
-            },
+            Command::Call(
+                Call::Run {
+                    partition: _,
+                    subkey,
+                },
+            ),
         ) = &lines[0].command
         else {
             return Err(Fail::new("a run was expected"));

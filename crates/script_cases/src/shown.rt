@@ -1,11 +1,13 @@
 // A script's lines as text.
-use script::CommandDebug;
-use script::ReasonDisplay;
+use script::CallDebug;
+use script::Command;
+use script::OpeningDebug;
 use script::read_script;
 use std::alloc::Global;
 use std::error::AnyError;
 use std::fmt::Write;
 use std::test::*;
+use words::ReasonDisplay;
 
 // Each line with its number and its command, or why it is wrong.
 pub fn shown(heap: Global, script: &[u8]) -> Result<String, AnyError> {
@@ -14,7 +16,8 @@ pub fn shown(heap: Global, script: &[u8]) -> Result<String, AnyError> {
     for line in &lines {
         let number = line.number;
         match &line.command {
-            Ok(command) => writeln!(text, "{number} {command:?}")?,
+            Ok(Command::Call(call)) => writeln!(text, "{number} {call:?}")?,
+            Ok(Command::Open(opening)) => writeln!(text, "{number} {opening:?}")?,
             Err(why) => writeln!(text, "{number} {why}")?,
         }
     }

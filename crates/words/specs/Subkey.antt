@@ -7,9 +7,9 @@ use Rattle.std.specs.Options.{isSome}
 use Rattle.std.specs.Results.{Cases, okPart}
 use Rattle.std.specs.declared.option.Option.the-variants.{None}
 use Rattle.std.specs.declared.result.Result.{Result}
-use Rattle.script.specs.declared.reason.Reason.{Reason}
-use Rattle.script.specs.declared.words.SubkeyWord.{SubkeyWord}
-use Rattle.script.specs.Digits.{number-of, label-of}
+use Rattle.words.specs.declared.reason.Reason.{Reason}
+use Rattle.words.specs.declared.words.SubkeyWord.{SubkeyWord}
+use Rattle.words.specs.Digits.{number-of, label-of}
 
 -- both readings of the word, or an error where it has neither
 abbrev pub Reads : List ℕ → Result SubkeyWord Reason → Type 0

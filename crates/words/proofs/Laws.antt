@@ -15,9 +15,9 @@ use Rattle.std.specs.declared.option.Option.{Option}
 use Rattle.std.specs.declared.option.Option.the-variants.{None, Some}
 use Rattle.std.specs.declared.result.Result.{Result}
 use Rattle.std.specs.declared.result.Result.the-variants.{Ok, Err}
-use Rattle.script.specs.declared.reason.Reason.{Reason}
-use Rattle.script.specs.declared.reason.Reason.the-variants.{NotNumber, OutOfRange}
-use Rattle.script.specs.Digits.{all-decimal, decimal, decimal-digit, in-64-bits, with-digit, at-most, number-of, byte-of, before, pairs}
+use Rattle.words.specs.declared.reason.Reason.{Reason}
+use Rattle.words.specs.declared.reason.Reason.the-variants.{NotNumber, OutOfRange}
+use Rattle.words.specs.Digits.{all-decimal, decimal, decimal-digit, in-64-bits, with-digit, at-most, number-of, byte-of, before, pairs}
 
 -- a digit more, of a number that may have passed 64 bits
 pub with-digit-at : (n d : ℕ) → with-digit (in-64-bits n) d ≡ in-64-bits (n * 10 + d)

@@ -1,6 +1,6 @@
 // The words of a line, which stand with one space between.
 ghost use mathlib.Core.Path.{_≡_};
-ghost use Rattle.script.specs.Subkey.{Reads};
+ghost use Rattle.words.specs.Subkey.{Reads};
 use crate::digits::grams;
 use crate::digits::key_bytes;
 use crate::digits::label_bytes;
@@ -19,7 +19,7 @@ pub enum ValueWord {
 
 impl ValueWord {
     // A position, or a weighing `SCALE:GRAMS`.
-    pub(crate) fn read(word: &str) -> Result<ValueWord, Reason> {
+    pub fn read(word: &str) -> Result<ValueWord, Reason> {
         match word.split_once(':') {
             None => Ok(ValueWord::Position(number(word.as_bytes(), u64::MAX)?)),
             Some((scale, weight)) => Ok(ValueWord::Weighing {
@@ -39,7 +39,7 @@ pub struct SubkeyWord {
 
 impl SubkeyWord {
     // Both readings of a word, of which it has to have one.
-    pub(crate) fn read(word: &str) -> Result<SubkeyWord, Reason>
+    pub fn read(word: &str) -> Result<SubkeyWord, Reason>
         ensures { λ r. ⌜ Reads (now (word .entry)) r ⌝ }
     {
         let label = label_bytes(word.as_bytes());

@@ -7,9 +7,9 @@ use lib.ListN.{length}
 use Rattle.std.proofs.shelf.Ways.{tells}
 use Rattle.std.specs.Of.Vec.{vec-items}
 use Rattle.std.specs.Results.{isOk}
-use Rattle.script.specs.Digits.{digit}
-use Rattle.script.proofs.Laws.{pairs-pushed, pairs-stop, pairs-end}
-use Rattle.script.proofs.digits.pairs_of.Needs as need
+use Rattle.words.specs.Digits.{digit}
+use Rattle.words.proofs.Laws.{pairs-pushed, pairs-stop, pairs-end}
+use Rattle.words.proofs.digits.pairs_of.Needs as need
 
 pub returns-in-rest : need.returns-in-rest
 returns-in-rest c =

@@ -4,8 +4,8 @@ use native.Mathlib.Omega.{arith}
 use Prim.Native.Nat.{_<_, _^_}
 use lib.ListN.{length}
 use Rattle.std.proofs.shelf.Ways.{tells}
-use Rattle.script.proofs.Laws.{value-more, decimal-more, number-stops, number-ends}
-use Rattle.script.proofs.digits.number.Needs as need
+use Rattle.words.proofs.Laws.{value-more, decimal-more, number-stops, number-ends}
+use Rattle.words.proofs.digits.number.Needs as need
 
 pub returns-in-None : need.returns-in-None
 returns-in-None c = sym (number-stops _ _ _ (c .loop-b-test .taken) (c .loop-b .inv .1) (sym (c .decimal-digit .ensures) ∙ c .in-None .is))

@@ -11,8 +11,8 @@ use Rattle.std.specs.declared.option.Option.{Option}
 use Rattle.std.specs.declared.option.Option.the-variants.{None, Some}
 use Rattle.std.specs.declared.result.Result.{Result}
 use Rattle.std.specs.declared.result.Result.the-variants.{Ok, Err}
-use Rattle.script.specs.declared.reason.Reason.{Reason}
-use Rattle.script.specs.declared.reason.Reason.the-variants.{MissingWord, OddDigit, WrongDigit, NotNumber, OutOfRange}
+use Rattle.words.specs.declared.reason.Reason.{Reason}
+use Rattle.words.specs.declared.reason.Reason.the-variants.{MissingWord, OddDigit, WrongDigit, NotNumber, OutOfRange}
 
 -- b is one of the bytes from lo to hi
 abbrev pub within : ℕ → ℕ → ℕ → Bool

@@ -7,7 +7,7 @@ ghost use Rattle.std.specs.Of.Vec.{vec-items};
 ghost use Rattle.std.specs.Options.{Cases as BySome};
 ghost use Rattle.std.specs.Results.{Cases};
 ghost use Rattle.std.specs.declared.result.Result.the-variants.{Ok, Err};
-ghost use Rattle.script.specs.Digits.{decimal-digit, digit, lower-digit, byte-of, with-digit, at-most, number-of, ok-by, grams-of, bytes-of, key-of, label-of};
+ghost use Rattle.words.specs.Digits.{decimal-digit, digit, lower-digit, byte-of, with-digit, at-most, number-of, ok-by, grams-of, bytes-of, key-of, label-of};
 use crate::reason::Reason;
 use std::alloc::Global;
 

@@ -6,9 +6,9 @@ use lib.ListN.{length, drop}
 use Rattle.std.proofs.shelf.Lists.{take-all, take-more-set, length-set}
 use Rattle.std.proofs.shelf.Ways.{tells}
 use Rattle.std.specs.declared.option.Option.the-variants.{Some}
-use Rattle.script.specs.Digits.{lower-digit, pairs}
-use Rattle.script.proofs.Laws.{onto, onto-nil, pairs-more, pairs-stop, pairs-end}
-use Rattle.script.proofs.digits.label_bytes.Needs as need
+use Rattle.words.specs.Digits.{lower-digit, pairs}
+use Rattle.words.proofs.Laws.{onto, onto-nil, pairs-more, pairs-stop, pairs-end}
+use Rattle.words.proofs.digits.label_bytes.Needs as need
 
 pub returns-then-word-ne16 : need.returns-then-word-ne16
 returns-then-word-ne16 c = grind (arith, tells)

@@ -2,9 +2,9 @@
 use mathlib.Core.Path.{_≡_}
 use Prim.Native.Nat.{_*_}
 use lib.ListN.{length, take, drop}
-use Rattle.script.specs.Digits.{lower-digit, pairs}
-use Rattle.script.proofs.Laws.{onto}
-use Rattle.script.proofs.digits.label_bytes.Given as given
+use Rattle.words.specs.Digits.{lower-digit, pairs}
+use Rattle.words.proofs.Laws.{onto}
+use Rattle.words.proofs.digits.label_bytes.Given as given
 
 abbrev pub Inv-loop-i : given.InvT-loop-i
 Inv-loop-i l = (onto (take (l .i) (l .label)) (pairs lower-digit (drop (2 * l .i) (l .word))) ≡ pairs lower-digit (l .word)) × (length (l .label) ≡ 8)

@@ -6,8 +6,8 @@ use lib.IntN.{pos, negℤ}
 use lib.ListN.{getD}
 use Rattle.std.proofs.shelf.Lists.{take-rest}
 use Rattle.std.proofs.shelf.Tests.{cond-true, eq-eqb}
-use Rattle.script.specs.Digits.{number-of, ok-by}
-use Rattle.script.proofs.digits.grams.Needs as need
+use Rattle.words.specs.Digits.{number-of, ok-by}
+use Rattle.words.proofs.digits.grams.Needs as need
 
 pub returns-in-45 : need.returns-in-45
 returns-in-45 c =
