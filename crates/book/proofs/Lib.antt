@@ -1,1 +1,3 @@
 pub mod Append
+pub mod Near
+pub mod Slots

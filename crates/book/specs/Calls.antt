@@ -2,7 +2,8 @@
 use mathlib.Core.Path.{_≡_}
 use mathlib.Core.Bool.{Bool, cond, _&&_}
 use mathlib.Core.List.{List, _++_}
-use Prim.Native.Nat.{ℕ, _^_, _<_, _≤_}
+use mathlib.Core.Logic.{_⊎_}
+use Prim.Native.Nat.{ℕ, _-_, _^_, _<_, _≤_}
 use lib.Dec.{ltb, leb, eqb}
 use lib.ListN.{length, drop}
 use Rattle.std.specs.declared.cmp.Ordering.{Ordering}
@@ -43,12 +44,14 @@ module _ {T K V : Type 0} (cmp : K → K → Ordering) (s : State T K V) where
   -- v is appended to the run at p, and nothing else changes
   pub record Appended (t : State T K V) (p : Place K) (v : V) : Type 0 where
     pub open-soundly : 0 < s .prefix
+    pub room : items (s .store .contents) < 2 ^ 64 - 1
     pub put : PutDone cmp (s .store) (t .store) p (length (run-at cmp (s .store) p)) v
     pub rest : t ≡ record { label = s .label; prefix = s .prefix; translator = s .translator; store = t .store }
 
+  -- no space is also when the count of items is full
   abbrev pub WhyInsert : Place K → Refusal → Type 0
   WhyInsert p Unsound = s .prefix ≡ 0
-  WhyInsert p NoSpace = (0 < s .prefix) × (s .store .space (p .partition) ≡ 0)
+  WhyInsert p NoSpace = (0 < s .prefix) × ((s .store .space (p .partition) ≡ 0) ⊎ (items (s .store .contents) ≡ 2 ^ 64 - 1))
   WhyInsert p FewSlots = ⊥
   WhyInsert p PastEnd = ⊥
 

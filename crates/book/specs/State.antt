@@ -6,8 +6,8 @@ use Rattle.std.specs.declared.option.Option.{Option}
 use Rattle.std.specs.declared.option.Option.the-variants.{None, Some}
 use Rattle.keys.specs.Order.{before}
 use Rattle.keys.specs.Orders.{place-order}
-use Rattle.contents.specs.Entries.{keys}
-use Rattle.side.specs.Table.{table-meaning, TableOk}
+use Rattle.contents.specs.Entries.{keys, items}
+use Rattle.store.specs.Meaning.{Meaning}
 use Rattle.translate.specs.declared.prefix.Prefix.{Prefix}
 use Rattle.book.specs.Calls.{State}
 use Rattle.book.specs.declared.book.Book.{Book}
@@ -16,11 +16,13 @@ abbrev pub bytes : Option Prefix → ℕ
 bytes None = 0
 bytes (Some p) = p .bytes
 
-module _ {K T V : Type 0} where
-  abbrev pub state : Book K T V → State T K V
-  state b = record { label = b .label; prefix = bytes (b .prefix); translator = b .translator; store = table-meaning (b .table) }
+-- meaning and ok are those of the store below
+module _ {S T K V : Type 0} (meaning : S → Meaning K V) where
+  abbrev pub state : Book S T → State T K V
+  state b = record { label = b .label; prefix = bytes (b .prefix); translator = b .translator; store = meaning (b .store) }
 
-  pub record BookOk (cmp : K → K → Ordering) (b : Book K T V) : Type 0 where
-    pub table : TableOk cmp (b .table)
-    pub partitions : 0 < bytes (b .prefix) → table-meaning (b .table) .partitions ≡ 256 ^ bytes (b .prefix)
-    pub counted : 0 < bytes (b .prefix) → b .keys ≡ keys (before (place-order cmp)) (table-meaning (b .table) .contents)
+  pub record BookOk (ok : S → Type 0) (cmp : K → K → Ordering) (b : Book S T) : Type 0 where
+    pub below : ok (b .store)
+    pub partitions : 0 < bytes (b .prefix) → meaning (b .store) .partitions ≡ 256 ^ bytes (b .prefix)
+    pub keys-counted : 0 < bytes (b .prefix) → b .keys ≡ keys (before (place-order cmp)) (meaning (b .store) .contents)
+    pub items-counted : 0 < bytes (b .prefix) → b .items ≡ items (meaning (b .store) .contents)

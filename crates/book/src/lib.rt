@@ -1,6 +1,7 @@
-// The lot book: runs of values under byte keys, over a side-table.
+// The lot book: runs of values under byte keys, over any store.
 mod book;
 mod counts;
+mod read;
 mod weighing;
 
 pub use book::Book;

@@ -71,6 +71,9 @@ module _ {P V : Type 0} {lt : P → P → Bool} (o : Total lt) where
         (λ q. ticks (run lt (bare es) q) (run lt (bare fs) q)
         (ap length (run-bare lt es q) ∙ length-map (run lt es q) (λ _. tt) ∙ n q ∙ sym (length-map (run lt fs q) (λ _. tt)) ∙ sym (ap length (run-bare lt fs q))))
 
+    same-places : places es ≡ places fs
+    same-places = sym (places-bare es) ∙ ap places same-bare ∙ places-bare fs
+
     pub same-keys : keys lt es ≡ keys lt fs
     same-keys = tally-is lt es ∙ sym (tally-bare lt es) ∙ ap (tally lt) same-bare ∙ tally-bare lt fs ∙ sym (tally-is lt fs)
 
@@ -86,6 +89,9 @@ module _ {P V : Type 0} {lt : P → P → Bool} (o : Total lt) where
       (λ f. ap length (s .there q (λ z. both-ways (same lt q p) f (ap (same lt q) (sym z) ∙ same-self o q))))
       (cases-bool (same lt q p))
 
+  pub set-places : (es fs : List (Entry P V)) (p : P) (i : ℕ) (v : V) → Rising lt es → Rising lt fs → Sets lt es fs p i v → places fs ≡ places es
+  set-places es fs p i v u w s = same-places fs es w u (set-lengths es fs p i v s)
+
   pub keys-set : (es fs : List (Entry P V)) (p : P) (i : ℕ) (v : V) → Rising lt es → Rising lt fs → Sets lt es fs p i v → keys lt fs ≡ keys lt es
   keys-set es fs p i v u w s = same-keys fs es w u (set-lengths es fs p i v s)
 
@@ -98,10 +104,10 @@ module _ {P V : Type 0} {lt : P → P → Bool} (o : Total lt) where
   without p [] = []
   without p (e ∷ es) = cond (same lt (e .place) p) (without p es) (e ∷ without p es)
 
-  gone : (p : P) (e : Entry P V) (es : List (Entry P V)) → same lt (e .place) p ≡ true → without p (e ∷ es) ≡ without p es
+  pub gone : (p : P) (e : Entry P V) (es : List (Entry P V)) → same lt (e .place) p ≡ true → without p (e ∷ es) ≡ without p es
   gone p e es t = ap (λ b. cond b (without p es) (e ∷ without p es)) t
 
-  stays : (p : P) (e : Entry P V) (es : List (Entry P V)) → same lt (e .place) p ≡ false → without p (e ∷ es) ≡ e ∷ without p es
+  pub stays : (p : P) (e : Entry P V) (es : List (Entry P V)) → same lt (e .place) p ≡ false → without p (e ∷ es) ≡ e ∷ without p es
   stays p e es t = ap (λ b. cond b (without p es) (e ∷ without p es)) t
 
   without-here : (p : P) (es : List (Entry P V)) → run lt (without p es) p ≡ []

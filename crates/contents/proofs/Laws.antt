@@ -51,7 +51,7 @@ none-more (y ∷ xs) ys x = refl
 
 -- ---- the places held, counted at the last entry of each
 
-one-at-most : (b : Bool) → cond b 1 0 ≤ 1
+pub one-at-most : (b : Bool) → cond b 1 0 ≤ 1
 one-at-most true = omega arith
 one-at-most false = omega arith
 

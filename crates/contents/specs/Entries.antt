@@ -5,9 +5,10 @@ use mathlib.Core.Bool.{Bool, true, false, cond, not}
 use mathlib.Core.List.{List, [], _∷_, map, reverse}
 use Prim.Native.Nat.{ℕ}
 use lib.ListN.{length}
+use Rattle.std.specs.shelf.Lists.{inserted}
 use Rattle.std.specs.declared.option.Option.{Option}
 use Rattle.std.specs.declared.option.Option.the-variants.{None, Some}
-use Rattle.contents.specs.Sorted.{Sorted}
+use Rattle.contents.specs.Sorted.{Sorted, count, below}
 
 pub record Entry (P V : Type 0) : Type 0 where
   pub place : P
@@ -49,6 +50,10 @@ held lt (e ∷ es) = cond (none (run lt es (e .place))) (e .place ∷ held lt es
 abbrev pub keys : {P V : Type 0} → (P → P → Bool) → List (Entry P V) → ℕ
 keys lt es = length (held lt es)
 
+-- how many values stand at places that pass a test
+abbrev pub amount : {P V : Type 0} → (P → Bool) → List (Entry P V) → ℕ
+amount t es = count t (places es)
+
 abbrev pub items : {P V : Type 0} → List (Entry P V) → ℕ
 items es = length es
 
@@ -59,3 +64,12 @@ first-that t (p ∷ ps) = cond (t p) (Some p) (first-that t ps)
 
 abbrev pub last-that : {P : Type 0} → (P → Bool) → List P → Option P
 last-that t ps = first-that t (reverse ps)
+
+-- e put in before all entries that are not before it
+abbrev pub placed : {P V : Type 0} → (P → P → Bool) → Entry P V → List (Entry P V) → List (Entry P V)
+placed lt e es = inserted es (below lt (places es) (e .place)) e
+
+-- the entries of both, in the order of their places
+abbrev pub merged : {P V : Type 0} → (P → P → Bool) → List (Entry P V) → List (Entry P V) → List (Entry P V)
+merged lt [] fs = fs
+merged lt (e ∷ es) fs = placed lt e (merged lt es fs)

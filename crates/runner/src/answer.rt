@@ -18,7 +18,7 @@ pub enum Answer<K> {
     Run(usize),
     Found(Place<K>, usize),
     Walked(Vec<Place<K>>),
-    Counted(Counts),
+    Counted(Counts, Option<u64>),
 }
 
 // All answers, one line each, and whether a line was wrong.
@@ -82,7 +82,7 @@ impl Report {
                 self.run(*len, slots)
             }
             Answer::Walked(places) => self.walk(places.as_slice()),
-            Answer::Counted(counts) => self.counts(counts),
+            Answer::Counted(counts, spills) => self.counts(counts, *spills),
         }
     }
 
@@ -113,11 +113,15 @@ impl Report {
         self.text.write_str("\n")
     }
 
-    // The counts of a book.
-    fn counts(&mut self, counts: &Counts) -> Result<(), fmt::Error> {
+    // The counts of a book, and the spills of a pile.
+    fn counts(&mut self, counts: &Counts, spills: Option<u64>) -> Result<(), fmt::Error> {
         let keys = counts.keys;
         let items = counts.items;
         let pruned = counts.pruned;
-        writeln!(self.text, "keys {keys} items {items} pruned {pruned}")
+        write!(self.text, "keys {keys} items {items} pruned {pruned}")?;
+        if let Some(n) = spills {
+            write!(self.text, " spills {n}")?;
+        }
+        self.text.write_str("\n")
     }
 }

@@ -3,11 +3,11 @@ ghost use Rattle.book.specs.State.{BookOk};
 use crate::fault::Fault;
 use crate::fault::FaultFromRefusal;
 use crate::fault::FaultFromRefused;
-use crate::value::Value;
 use book::Book;
 use keys::Key;
 use keys::Place;
 use std::alloc::Global;
+use store::Store;
 use translate::OrderedTranslator;
 use translate::Translator;
 use words::Reason;
@@ -22,18 +22,18 @@ pub enum End {
 // What a book of the translator T can be asked of the order of its places.
 pub trait Neighbours<T: Translator> {
     // The place at an end.
-    fn at_end<'a, V: Value>(
-        book: &Book<'a, T::Key, T, V>,
+    fn at_end<S: Store<Key = T::Key>>(
+        book: &Book<S, T>,
         end: End,
     ) -> Result<Option<Place<T::Key>>, Fault>
-        requires { ⌜ BookOk (Key·Key .ordered) (now book) ⌝ };
+        requires { ⌜ BookOk (S·Store .meaning) (S·Store .ok) (Key·Key .ordered) (now book) ⌝ };
 
     // Every place, from the first on.
-    fn walk<'a, V: Value>(
+    fn walk<S: Store<Key = T::Key>>(
         heap: Global,
-        book: &Book<'a, T::Key, T, V>,
+        book: &Book<S, T>,
     ) -> Result<Vec<Place<T::Key>>, Fault>
-        requires { ⌜ BookOk (Key·Key .ordered) (now book) ⌝ };
+        requires { ⌜ BookOk (S·Store .meaning) (S·Store .ok) (Key·Key .ordered) (now book) ⌝ };
 }
 
 // For translators that keep order.
@@ -43,8 +43,8 @@ pub struct Ordered;
 pub struct Unordered;
 
 pub impl<T: OrderedTranslator> Neighbours<T> for Ordered as OrderedNeighbours {
-    fn at_end<'a, V: Value>(
-        book: &Book<'a, T::Key, T, V>,
+    fn at_end<S: Store<Key = T::Key>>(
+        book: &Book<S, T>,
         end: End,
     ) -> Result<Option<Place<T::Key>>, Fault> {
         match end {
@@ -53,9 +53,9 @@ pub impl<T: OrderedTranslator> Neighbours<T> for Ordered as OrderedNeighbours {
         }
     }
 
-    fn walk<'a, V: Value>(
+    fn walk<S: Store<Key = T::Key>>(
         heap: Global,
-        book: &Book<'a, T::Key, T, V>,
+        book: &Book<S, T>,
     ) -> Result<Vec<Place<T::Key>>, Fault> {
         let mut places = Vec::new(heap);
         let mut at = book.first()?;
@@ -71,16 +71,16 @@ pub impl<T: OrderedTranslator> Neighbours<T> for Ordered as OrderedNeighbours {
 }
 
 pub impl<T: Translator> Neighbours<T> for Unordered as UnorderedNeighbours {
-    fn at_end<'a, V: Value>(
-        _book: &Book<'a, T::Key, T, V>,
+    fn at_end<S: Store<Key = T::Key>>(
+        _book: &Book<S, T>,
         _end: End,
     ) -> Result<Option<Place<T::Key>>, Fault> {
         Err(Fault::Wrong(Reason::NoOrder))
     }
 
-    fn walk<'a, V: Value>(
+    fn walk<S: Store<Key = T::Key>>(
         _heap: Global,
-        _book: &Book<'a, T::Key, T, V>,
+        _book: &Book<S, T>,
     ) -> Result<Vec<Place<T::Key>>, Fault> {
         Err(Fault::Wrong(Reason::NoOrder))
     }

@@ -1,6 +1,7 @@
 // How a script opens a book.
 use words::Reason;
 use words::Words;
+use words::number;
 
 #[derive(Clone, Copy, Debug)]
 pub enum TranslatorName {
@@ -15,9 +16,14 @@ pub enum ValuesName {
     Weighing,
 }
 
+// A store, with the numbers that it is opened with.
 #[derive(Clone, Copy, Debug)]
 pub enum StoreName {
-    Side { capacity: u64 },
+    Pocket,
+    Windows { window: u64 },
+    Side { cells: u64 },
+    Pile { window: u64, cells: u64 },
+    PocketPile { cells: u64 },
 }
 
 #[derive(Clone, Copy, Debug)]
@@ -48,14 +54,30 @@ fn read_values(words: &mut Words<'_>) -> Result<ValuesName, Reason> {
     }
 }
 
-// `side C`; the other stores are known by name only.
+// What stands after `pile`: `W C` or `pocket C`.
+fn read_pile(words: &mut Words<'_>) -> Result<StoreName, Reason> {
+    match words.word()? {
+        "pocket" => Ok(StoreName::PocketPile {
+            cells: words.number()?,
+        }),
+        window => Ok(StoreName::Pile {
+            window: number(window.as_bytes(), u64::MAX)?,
+            cells: words.number()?,
+        }),
+    }
+}
+
+// `pocket`, `windows W`, `side C`, `pile W C` or `pile pocket C`.
 fn read_store(words: &mut Words<'_>) -> Result<StoreName, Reason> {
     match words.word()? {
-        "side" => {
-            let capacity = words.number()?;
-            Ok(StoreName::Side { capacity })
-        }
-        "pocket" | "windows" | "pile" => Err(Reason::NotBuilt),
+        "pocket" => Ok(StoreName::Pocket),
+        "windows" => Ok(StoreName::Windows {
+            window: words.number()?,
+        }),
+        "side" => Ok(StoreName::Side {
+            cells: words.number()?,
+        }),
+        "pile" => read_pile(words),
         _ => Err(Reason::UnknownStore),
     }
 }

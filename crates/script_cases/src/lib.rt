@@ -259,15 +259,15 @@ mod tests {
         let table: [(&[u8], &str); 4] = [
             (
                 b"open 1 16 cap position side 1000",
-                "1 Opening { label: 1, prefix: 16, translator: Cap, values: Position, store: Side { capacity: 1000 } }\n",
+                "1 Opening { label: 1, prefix: 16, translator: Cap, values: Position, store: Side { cells: 1000 } }\n",
             ),
             (
                 b"open 4294967295 18446744073709551615 label weighing side 18446744073709551615",
-                "1 Opening { label: 4294967295, prefix: 18446744073709551615, translator: Label, values: Weighing, store: Side { capacity: 18446744073709551615 } }\n",
+                "1 Opening { label: 4294967295, prefix: 18446744073709551615, translator: Label, values: Weighing, store: Side { cells: 18446744073709551615 } }\n",
             ),
             (
                 b"open 0 0 fold position side 0",
-                "1 Opening { label: 0, prefix: 0, translator: Fold, values: Position, store: Side { capacity: 0 } }\n",
+                "1 Opening { label: 0, prefix: 0, translator: Fold, values: Position, store: Side { cells: 0 } }\n",
             ),
             (
                 b"open 4294967296 1 cap position side 1",
@@ -279,7 +279,7 @@ mod tests {
 
     #[test]
     fn wrong_openings(rt: LibcRuntime) -> Result<(), Fail> {
-        let table: [(&[u8], &str); 12] = [
+        let table: [(&[u8], &str); 16] = [
             (b"open", "1 a word is missing\n"),
             (b"open 1 16 cap position", "1 a word is missing\n"),
             (b"open 1 16 cap position side", "1 a word is missing\n"),
@@ -295,9 +295,28 @@ mod tests {
             (b"open 1 16 caps position side 1", "1 unknown translator\n"),
             (b"open 1 16 cap place side 1", "1 unknown values\n"),
             (b"open 1 16 cap position sides 1", "1 unknown store\n"),
-            (b"open 1 16 cap position pocket", "1 not built yet\n"),
-            (b"open 1 16 cap position windows 4", "1 not built yet\n"),
-            (b"open 1 16 cap position pile 4 8", "1 not built yet\n"),
+            (
+                b"open 1 16 cap position pocket",
+                "1 Opening { label: 1, prefix: 16, translator: Cap, values: Position, store: Pocket }\n",
+            ),
+            (
+                b"open 1 16 cap position windows 4",
+                "1 Opening { label: 1, prefix: 16, translator: Cap, values: Position, store: Windows { window: 4 } }\n",
+            ),
+            (
+                b"open 1 16 cap position pile 4 8",
+                "1 Opening { label: 1, prefix: 16, translator: Cap, values: Position, store: Pile { window: 4, cells: 8 } }\n",
+            ),
+            (
+                b"open 1 1 cap position pile pocket 8",
+                "1 Opening { label: 1, prefix: 1, translator: Cap, values: Position, store: PocketPile { cells: 8 } }\n",
+            ),
+            (
+                b"open 1 1 cap position pile pocket",
+                "1 a word is missing\n",
+            ),
+            (b"open 1 1 cap position pile 4", "1 a word is missing\n"),
+            (b"open 1 1 cap position pile four 8", "1 not a number\n"),
         ];
         check_shown(rt.alloc(), &table)
     }

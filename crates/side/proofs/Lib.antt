@@ -1,3 +1,4 @@
 pub mod Live
+pub mod Gaps
 pub mod Finds
 pub mod Steps

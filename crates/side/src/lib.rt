@@ -1,26 +1,30 @@
 // The side-table: a sorted array of places with a value beside each, over memory handed in.
-ghost use mathlib.Core.Bool.{true};
+mod partitions;
+
 ghost use mathlib.Core.Path.{_≡_};
-ghost use Prim.Native.Nat.{ℕ, _≤_};
-ghost use lib.ListN.{length, drop};
-ghost use Rattle.keys.specs.Order.{before};
-ghost use Rattle.keys.specs.Orders.{place-order};
-ghost use Rattle.contents.specs.Entries.{places, first-that, last-that, items};
-ghost use Rattle.store.specs.Meaning.{Sound, Put, run-at, spot};
+ghost use lib.ListN.{length};
+ghost use Rattle.store.specs.Meaning.{run-at};
 ghost use Rattle.side.specs.Table.{opened, table-meaning, TableOk, Ranges};
+use crate::partitions::partition_end;
+use crate::partitions::partition_start;
+use crate::partitions::place_in;
 use arrays::insert_at;
+use arrays::lower_bound;
+use arrays::remove_at;
+use arrays::remove_run;
 use arrays::run_range;
 use arrays::upper_bound;
-use arrays::value_at;
 use arrays::values;
 use keys::Key;
 use keys::Place;
 use keys::PlaceKey;
 use store::Refusal;
+use store::Store;
 
 // The most cells that a table uses.
 const CELLS: usize = 65536;
 
+// Places and values alongside, in rising order of the places: the first `len` of `cells` are in use.
 #[derive(Drop)]
 pub struct SideTable<'a, K, V> {
     keys: &'a mut [Place<K>],
@@ -61,12 +65,6 @@ impl<'a, K: Key, V: Copy + Drop> SideTable<'a, K, V> {
         }
     }
 
-    // What is known of every table; it does nothing.
-    pub fn sound(&self)
-        requires { ⌜ TableOk (K·Key .ordered) (now self) ⌝ }
-        ensures { λ _. ⌜ Sound (K·Key .ordered) (table-meaning (now (self .entry))) ⌝ }
-    {}
-
     // Where the run at `place` begins, and where it ends.
     fn range(&self, place: &Place<K>) -> (usize, usize)
         requires { ⌜ TableOk (K·Key .ordered) (now self) ⌝ }
@@ -76,36 +74,6 @@ impl<'a, K: Key, V: Copy + Drop> SideTable<'a, K, V> {
         (range.start, range.end)
     }
 
-    // Puts `value` in at `offset` of the run at `place`.
-    pub fn put(&mut self, place: &Place<K>, offset: usize, value: V) -> Result<(), Refusal>
-        requires { ⌜ TableOk (K·Key .ordered) (now self) ⌝ }
-        ensures ok { λ _. ⌜ TableOk (K·Key .ordered) (now (self .exit)) ⌝ }
-        ensures does { λ r. ⌜ Put (K·Key .ordered) (table-meaning (now (self .entry))) (table-meaning (now (self .exit))) (now (place .entry)) offset value r ⌝ }
-    {
-        if place.partition >= self.partitions || self.len == self.cells {
-            return Err(Refusal::NoSpace);
-        }
-        let (start, end) = self.range(place);
-        if offset > end - start {
-            return Err(Refusal::PastEnd);
-        }
-        let at = start + offset;
-        let len = self.len;
-        insert_at(self.keys, len, at, *place);
-        insert_at(self.values, len, at, value);
-        self.len = len + 1;
-        Ok(())
-    }
-
-    // How many values the run at `place` has.
-    pub fn run_len(&self, place: &Place<K>) -> usize
-        requires { ⌜ TableOk (K·Key .ordered) (now self) ⌝ }
-        ensures { λ r. ⌜ r ≡ length (run-at (K·Key .ordered) (table-meaning (now (self .entry))) (now (place .entry))) ⌝ }
-    {
-        let (from, to) = self.range(place);
-        to - from
-    }
-
     // The run at `place`, as the part of the values itself.
     pub fn run(&self, place: &Place<K>) -> &[V]
         requires { ⌜ TableOk (K·Key .ordered) (now self) ⌝ }
@@ -113,46 +81,105 @@ impl<'a, K: Key, V: Copy + Drop> SideTable<'a, K, V> {
     {
         values(&self.keys[0..self.len], &self.values[0..self.len], place)
     }
+}
 
-    // The least place.
-    pub fn first(&self) -> Option<Place<K>>
-        requires { ⌜ TableOk (K·Key .ordered) (now self) ⌝ }
-        ensures { λ r. ⌜ r ≡ first-that (λ _. true) (places (table-meaning (now (self .entry)) .contents)) ⌝ }
-    {
-        place_at(&self.keys[0..self.len], 0)
+pub impl<'a, K: Key, V: Copy + Drop> Store for SideTable<'a, K, V> as SideStore {
+    type Key = K;
+
+    type Value = V;
+
+    ghost meaning = { table-meaning };
+
+    ghost ok = { TableOk (K·Key .ordered) };
+
+    fn sound(&self) {}
+
+    fn put(&mut self, place: &Place<K>, offset: u64, value: V) -> Result<(), Refusal> {
+        if place.partition >= self.partitions || self.len == self.cells {
+            return Err(Refusal::NoSpace);
+        }
+        let (start, end) = self.range(place);
+        if offset > (end - start) as u64 {
+            return Err(Refusal::PastEnd);
+        }
+        let at = start + offset as usize;
+        let len = self.len;
+        insert_at(self.keys, len, at, *place);
+        insert_at(self.values, len, at, value);
+        self.len = len + 1;
+        Ok(())
     }
 
-    // The greatest place.
-    pub fn last(&self) -> Option<Place<K>>
-        requires { ⌜ TableOk (K·Key .ordered) (now self) ⌝ }
-        ensures { λ r. ⌜ r ≡ last-that (λ _. true) (places (table-meaning (now (self .entry)) .contents)) ⌝ }
-    {
-        let end = self.len.checked_sub(1)?;
-        Some(value_at(&self.keys[0..self.len], end))
+    fn take(&mut self, place: &Place<K>, offset: u64) -> Result<V, Refusal> {
+        let (start, end) = self.range(place);
+        if offset >= (end - start) as u64 {
+            return Err(Refusal::PastEnd);
+        }
+        let at = start + offset as usize;
+        let len = self.len;
+        let value = self.values[at];
+        remove_at(self.keys, len, at);
+        remove_at(self.values, len, at);
+        self.len = len - 1;
+        Ok(value)
     }
 
-    // The least place after `place`.
-    pub fn next_after(&self, place: &Place<K>) -> Option<Place<K>>
-        requires { ⌜ TableOk (K·Key .ordered) (now self) ⌝ }
-        ensures { λ r. ⌜ r ≡ first-that (before (place-order (K·Key .ordered)) (now (place .entry))) (places (table-meaning (now (self .entry)) .contents)) ⌝ }
-    {
-        let live = &self.keys[0..self.len];
-        place_at(live, upper_bound(live, place))
+    fn set(&mut self, place: &Place<K>, offset: u64, value: V) -> Result<(), Refusal> {
+        let (start, end) = self.range(place);
+        if offset >= (end - start) as u64 {
+            return Err(Refusal::PastEnd);
+        }
+        let at = start + offset as usize;
+        self.values[at] = value;
+        Ok(())
     }
 
-    // How many values the table holds.
-    pub fn items(&self) -> u64
-        requires { ⌜ TableOk (K·Key .ordered) (now self) ⌝ }
-        ensures { λ r. ⌜ r ≡ items (table-meaning (now (self .entry)) .contents) ⌝ }
-    {
-        self.len as u64
+    // One removal from each array, however long the run.
+    fn remove_run(&mut self, place: &Place<K>) {
+        let (start, end) = self.range(place);
+        let len = self.len;
+        remove_run(self.keys, len, start, end);
+        remove_run(self.values, len, start, end);
+        self.len = len - (end - start);
     }
 
-    // How many values more a partition can take.
-    pub fn space(&self, partition: u64) -> u64
-        requires { ⌜ TableOk (K·Key .ordered) (now self) ⌝ }
-        ensures { λ r. ⌜ r ≡ table-meaning (now (self .entry)) .space partition ⌝ }
-    {
+    fn run_len(&self, place: &Place<K>) -> u64 {
+        let (from, to) = self.range(place);
+        (to - from) as u64
+    }
+
+    fn value_at(&self, place: &Place<K>, offset: u64) -> Option<V> {
+        let run = self.run(place);
+        if offset < run.len() as u64 {
+            Some(run[offset as usize])
+        } else {
+            None
+        }
+    }
+
+    fn first_in(&self, partition: u64) -> Option<Place<K>> {
+        let places = &self.keys[0..self.len];
+        place_in(places, partition_start(places, partition), partition)
+    }
+
+    fn last_in(&self, partition: u64) -> Option<Place<K>> {
+        let places = &self.keys[0..self.len];
+        let last = partition_end(places, partition).checked_sub(1)?;
+        place_in(places, last, partition)
+    }
+
+    fn next_in(&self, place: &Place<K>) -> Option<Place<K>> {
+        let places = &self.keys[0..self.len];
+        place_in(places, upper_bound(places, place), place.partition)
+    }
+
+    fn previous_in(&self, place: &Place<K>) -> Option<Place<K>> {
+        let places = &self.keys[0..self.len];
+        let previous = lower_bound(places, place).checked_sub(1)?;
+        place_in(places, previous, place.partition)
+    }
+
+    fn space(&self, partition: u64) -> u64 {
         if partition < self.partitions {
             (self.cells - self.len) as u64
         } else {
@@ -160,30 +187,15 @@ impl<'a, K: Key, V: Copy + Drop> SideTable<'a, K, V> {
         }
     }
 
-    // How many partitions there are.
-    pub fn partition_count(&self) -> u64
-        requires { ⌜ TableOk (K·Key .ordered) (now self) ⌝ }
-        ensures { λ r. ⌜ r ≡ table-meaning (now (self .entry)) .partitions ⌝ }
-    {
+    fn partition_count(&self) -> u64 {
         self.partitions
     }
 
-    // How many values the table is sure to take.
-    pub fn assured_number(&self) -> u64
-        requires { ⌜ TableOk (K·Key .ordered) (now self) ⌝ }
-        ensures { λ r. ⌜ r ≡ table-meaning (now (self .entry)) .assured ⌝ }
-    {
+    fn assured_number(&self) -> u64 {
         self.cells as u64
     }
-}
 
-// The place at `idx`, if that many are there.
-fn place_at<K: Key>(places: &[Place<K>], idx: usize) -> Option<Place<K>>
-    ensures { λ r. ⌜ r ≡ first-that (λ _. true) (drop idx (now (places .entry))) ⌝ }
-{
-    if idx < places.len() {
-        Some(places[idx])
-    } else {
-        None
+    fn is_empty(&self) -> bool {
+        self.len == 0
     }
 }

@@ -1,4 +1,7 @@
-// What every store means, and the refusals of the lot book.
+// What every store means, its interface, and the refusals of the lot book.
 mod refusal;
+mod store;
 
 pub use refusal::Refusal;
+pub use store::Store;
+pub use store::Windowed;

@@ -21,6 +21,7 @@ pub enum Reason {
     NoOrder,
     OtherValues,
     OtherKeys,
+    OtherStore,
     NoMemory,
 }
 
@@ -46,6 +47,7 @@ pub impl fmt::Display for Reason as ReasonDisplay {
                 Reason::NoOrder => "the book has no order",
                 Reason::OtherValues => "does not fit the book's values",
                 Reason::OtherKeys => "does not fit the book's keys",
+                Reason::OtherStore => "does not fit the store",
                 Reason::NoMemory => "no memory",
             },
         )

@@ -1,0 +1,3 @@
+pub mod Piled
+pub mod Homes
+pub mod Piles
