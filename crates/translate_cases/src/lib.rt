@@ -11,7 +11,7 @@ mod tests {
     use translate::Prefix;
     use translate::Translator;
 
-    // The published 32-bit FNV-1a test vectors: the list's first two groups and the beginning of its third.
+    // 32-bit FNV-1a vectors of the public list, written down without a copy of it at hand.
     #[test]
     fn fold_vectors() -> Result<(), Fail> {
         let vectors: [(&[u8], u32); 34] = [
