@@ -1,3 +1,3 @@
-pub mod Opening
-pub mod Stepping
-pub mod Changing
+pub mod Append
+pub mod Near
+pub mod Slots

@@ -1,2 +1,2 @@
-pub mod Books
-pub mod Answers
+pub mod Calls
+pub mod State

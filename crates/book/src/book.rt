@@ -1,24 +1,22 @@
-// The book, and how it is opened.
-ghost use Rattle.std.specs.Prelude.{◌≡◌, true, if◌then◌else◌};
-ghost use Rattle.history.specs.Theorem.{History};
-ghost use Rattle.book.specs.Books.{bytes, sound, opened, table, place_in, BookOk};
-ghost use Rattle.book.specs.Answers.{Ready, Slipped, OpenSoundly};
+// The book and its changing calls.
+ghost use Rattle.std.specs.Prelude.{◌≡◌, if◌then◌else◌};
+ghost use Rattle.translate.specs.Split.{place_of};
+ghost use Rattle.book.specs.Calls.{sound, opened, Answers, Insert};
+ghost use Rattle.book.specs.State.{state, bytes, BookOk};
 
-use crate::slip::Slip;
-use history::{Cursor, Edit};
 use keys::{Key, Place};
-use ledger::Ledger;
 use store::{Refusal, Store};
 use translate::{Prefix, Translator, place_of};
 
 // A book over any store; without a prefix it was opened unsoundly, and refuses every call.
 #[derive(Drop)]
-pub struct Book<S: Store, T> {
-    pub(crate) label: u32,
+pub struct Book<S, T> {
+    label: u32,
     pub(crate) prefix: Option<Prefix>,
-    pub(crate) translator: T,
-    pub(crate) ledger: Ledger<S>,
-    pub(crate) edit: Edit<S::Key>,
+    translator: T,
+    pub(crate) store: S,
+    pub(crate) keys: u64,
+    pub(crate) items: u64,
 }
 
 impl<S: Store, T: Translator<Key = S::Key>> Book<S, T> {
@@ -26,64 +24,48 @@ impl<S: Store, T: Translator<Key = S::Key>> Book<S, T> {
     pub fn open(label: u32, p: u64, store: S, translator: T) -> Book<S, T>
         requires { S.Store.ok store }
         ensures ok { BookOk S.Store.meaning S.Store.ok S.Key.Key.ordered result }
-        ensures opens { table S.Store.meaning T.Translator.meaning result ≡ opened label p (S.Store.meaning store) (T.Translator.meaning translator) }
-        ensures theorem { sound p (S.Store.meaning store) ≡ true → History S.Key.Key.ordered (table S.Store.meaning T.Translator.meaning result) }
+        ensures opens { state S.Store.meaning result ≡ opened label p (S.Store.meaning store) translator }
     {
-        store.sound();
         let prefix = sound_prefix(p, &store);
         Book {
             label,
             prefix,
             translator,
-            ledger: Ledger::new(store),
-            edit: Edit::Shut,
+            store,
+            keys: 0,
+            items: 0,
         }
     }
 
-    // The store below, to be read.
-    pub fn store(&self) -> &S
-        ensures { result.now ≡ self.now.ledger.store }
+    // The place of `key`, or the refusal of a book that was opened unsoundly.
+    pub(crate) fn place(&self, key: &[u8]) -> Result<Place<S::Key>, Refusal>
+        ensures { Answers (state S.Store.meaning self.now) (place_of (state S.Store.meaning self.now).prefix (T.Translator.meaning self.now.translator) key.now) result }
     {
-        self.ledger.store()
-    }
-
-    // The prefix of a book that was opened soundly.
-    pub(crate) fn sound_prefix(&self) -> Result<Prefix, Refusal>
-        requires { BookOk S.Store.meaning S.Store.ok S.Key.Key.ordered self.now }
-        ensures { OpenSoundly S.Key.Key.ordered (table S.Store.meaning T.Translator.meaning self.now) result }
-    {
-        self.ledger.store().sound();
         match &self.prefix {
             None => Err(Refusal::Unsound),
-            Some(prefix) => Ok(*prefix),
+            Some(prefix) => Ok(place_of(prefix, &self.translator, key)),
         }
     }
 
-    // The place of `key` for a changing call, which no open edit may precede.
-    pub(crate) fn change_place(&self, key: &[u8]) -> Result<Place<S::Key>, Refusal>
-        requires { BookOk S.Store.meaning S.Store.ok S.Key.Key.ordered self.now }
-        ensures { Ready S.Key.Key.ordered (table S.Store.meaning T.Translator.meaning self.now) (place_in S.Store.meaning T.Translator.meaning self.now key.now) result }
+    // Appends `value` to the run of `key`.
+    pub fn insert(&mut self, key: &[u8], value: S::Value) -> Result<(), Refusal>
+        requires { BookOk S.Store.meaning S.Store.ok S.Key.Key.ordered self.old }
+        ensures ok { BookOk S.Store.meaning S.Store.ok S.Key.Key.ordered self.new }
+        ensures does { Insert S.Key.Key.ordered (state S.Store.meaning self.old) (state S.Store.meaning self.new) (place_of (state S.Store.meaning self.old).prefix (T.Translator.meaning self.old.translator) key.now) value result }
     {
-        let prefix = self.sound_prefix()?;
-        match &self.edit {
-            Edit::Open {
-                place: _,
-                cursor: _,
-            } => Err(Refusal::EditOpen),
-            Edit::Shut => Ok(place_of(&prefix, &self.translator, key)),
+        let place = self.place(key)?;
+        if self.items == u64::MAX {
+            return Err(Refusal::NoSpace);
         }
-    }
-
-    // Where the edit stands for which `slip` is the leave.
-    pub(crate) fn edit_place(&self, slip: &Slip) -> Result<(Place<S::Key>, Cursor), Refusal>
-        requires { BookOk S.Store.meaning S.Store.ok S.Key.Key.ordered self.now }
-        ensures { Slipped S.Key.Key.ordered (table S.Store.meaning T.Translator.meaning self.now) slip.now.label result }
-    {
-        let _ = self.sound_prefix()?;
-        match &self.edit {
-            Edit::Open { place, cursor } if slip.label == self.label => Ok((*place, *cursor)),
-            _ => Err(Refusal::NoEdit),
+        let end = self.store.run_len(&place);
+        self.store.sound();
+        self.store.put(&place, end, value)?;
+        self.store.sound();
+        self.items += 1;
+        if end == 0 {
+            self.keys += 1;
         }
+        Ok(())
     }
 }
 

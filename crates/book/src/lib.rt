@@ -1,7 +1,9 @@
 // The lot book: runs of values under byte keys, over any store.
 mod book;
-mod change;
-mod slip;
+mod counts;
+mod read;
+mod weighing;
 
 pub use book::Book;
-pub use slip::Slip;
+pub use counts::Counts;
+pub use weighing::Weighing;

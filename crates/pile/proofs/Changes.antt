@@ -8,8 +8,8 @@ use Rattle.keys.specs.declared.place.Place.{Place}
 use Rattle.contents.specs.Changes.{Gains, Sets, Clears}
 use Rattle.contents.proofs.Amounts.{amount-put, amount-set, amount-clear}
 use Rattle.store.specs.declared.refusal.Refusal.{Refusal}
+use Rattle.store.specs.declared.refusal.Refusal.TheVariants.{Unsound, NoSpace, FewSlots, PastEnd}
 use Rattle.store.specs.Meaning.{Meaning, Sound, PutDone, Put, Take, Set, Removed, WhyPut, in_part, values_in, run_at}
-use Rattle.store.proofs.Why.{causes_map}
 use Rattle.moves.proofs.Steps.{gains-values, clears-values}
 use Rattle.pile.specs.Piled.{joint, Apiece}
 use Rattle.pile.proofs.Joint.{space-windows, space-side, space-least, joint-run, run-windows, run-side}
@@ -120,10 +120,13 @@ module _ {K V : Type 0} (cmp : K → K → Ordering) (o : Total (before (place_o
         side-put m n k p i v sn sk z (omega (arith, space-side cmp m n p.partition h)) d,
         apiece-from m n m k p.partition a d.same_partitions refl (λ r ne. refl) (gains-there n k p i v sn sk d.gains) (λ g. z),
       )
-  put-side m n k p i v (Err e) sn sk a h d =
-      let s = space-side cmp m n p.partition h in
-      let l = ap length (run-side cmp o m n sn p.partition (a.apart p.partition h) p refl) in
-      ((ap (joint cmp m) d.0, causes_map (λ x. s ∙ x) (λ x. (omega (arith, x.0), omega (arith, x.1))) e d.1), subst (Apiece m) (sym d.0) a)
+  put-side m n k p i v (Err Unsound) sn sk a h d = absurd d.1
+  put-side m n k p i v (Err NoSpace) sn sk a h d =
+      ((ap (joint cmp m) d.0, space-side cmp m n p.partition h ∙ d.1), subst (Apiece m) (sym d.0) a)
+  put-side m n k p i v (Err FewSlots) sn sk a h d = absurd d.1
+  put-side m n k p i v (Err PastEnd) sn sk a h d =
+      let e = run-side cmp o m n sn p.partition (a.apart p.partition h) p refl in
+      ((ap (joint cmp m) d.0, (omega (arith, space-side cmp m n p.partition h, d.1.0), omega (arith, ap length e, d.1.1))), subst (Apiece m) (sym d.0) a)
 
   pub window-apiece : (m n k : Meaning K V) (p : Place K) (i : ℕ) (v : V) → Sound cmp m → Sound cmp k → Apiece m n → values_in n p.partition ≡ 0 → PutDone cmp m k p i v → Apiece k n
   window-apiece m n k p i v sm sk a z d =
@@ -131,10 +134,12 @@ module _ {K V : Type 0} (cmp : K → K → Ordering) (o : Total (before (place_o
 
   -- a refused put at a window that has space
   pub window-refused : (m n k : Meaning K V) (p : Place K) (i : ℕ) (e : Refusal) → Sound cmp n → values_in n p.partition ≡ 0 → 0 < m.space p.partition → (k ≡ m) × WhyPut cmp m p i e → (joint cmp k n ≡ joint cmp m n) × WhyPut cmp (joint cmp m n) p i e
-  window-refused m n k p i e sn z h d =
-      let s = space-windows cmp m n p.partition z in
-      let l = ap length (run-windows cmp o m n sn p.partition z p refl) in
-      (ap (λ x. joint cmp x n) d.0, causes_map (λ x. absurd (omega (arith, x))) (λ x. (omega arith, omega (arith, x.1))) e d.1)
+  window-refused m n k p i Unsound sn z h d = absurd d.1
+  window-refused m n k p i NoSpace sn z h d = absurd (omega (arith, d.1))
+  window-refused m n k p i FewSlots sn z h d = absurd d.1
+  window-refused m n k p i PastEnd sn z h d =
+      let e = run-windows cmp o m n sn p.partition z p refl in
+      (ap (λ x. joint cmp x n) d.0, (omega (arith, space-windows cmp m n p.partition z), omega (arith, ap length e, d.1.1)))
 
   -- ---- takes
 
@@ -149,9 +154,12 @@ module _ {K V : Type 0} (cmp : K → K → Ordering) (o : Total (before (place_o
         },
         apiece-from m n m k p.partition a d.same_partitions refl (λ r ne. refl) (λ r ne. sym (gains-there k n p i v sk sn d.gains r ne)) (λ g. z),
       )
-  take-side m n k p i (Err e) sn sk a h d =
-      let l = ap length (run-side cmp o m n sn p.partition (a.apart p.partition h) p refl) in
-      ((ap (joint cmp m) d.0, causes_map (λ x. x) (λ x. omega (arith, x)) e d.1), subst (Apiece m) (sym d.0) a)
+  take-side m n k p i (Err Unsound) sn sk a h d = absurd d.1
+  take-side m n k p i (Err NoSpace) sn sk a h d = absurd d.1
+  take-side m n k p i (Err FewSlots) sn sk a h d = absurd d.1
+  take-side m n k p i (Err PastEnd) sn sk a h d =
+      let e = run-side cmp o m n sn p.partition (a.apart p.partition h) p refl in
+      ((ap (joint cmp m) d.0, omega (arith, ap length e, d.1)), subst (Apiece m) (sym d.0) a)
 
   pub take-window : (m n k : Meaning K V) (p : Place K) (i : ℕ) (r : Result V Refusal) → Sound cmp m → Sound cmp n → Sound cmp k → Apiece m n → values_in n p.partition ≡ 0 → Take cmp m k p i r → Take cmp (joint cmp m n) (joint cmp k n) p i r × Apiece k n
   take-window m n k p i (Ok v) sm sn sk a z d =
@@ -165,9 +173,12 @@ module _ {K V : Type 0} (cmp : K → K → Ordering) (o : Total (before (place_o
         },
         apiece-from m n k n p.partition a refl d.same_partitions (λ r ne. sym (gains-there k m p i v sk sm d.gains r ne)) (λ r ne. refl) (λ g. absurd (omega arith)),
       )
-  take-window m n k p i (Err e) sm sn sk a z d =
-      let l = ap length (run-windows cmp o m n sn p.partition z p refl) in
-      ((ap (λ x. joint cmp x n) d.0, causes_map (λ x. x) (λ x. omega (arith, x)) e d.1), apiece-windows m n k d.0 a)
+  take-window m n k p i (Err Unsound) sm sn sk a z d = absurd d.1
+  take-window m n k p i (Err NoSpace) sm sn sk a z d = absurd d.1
+  take-window m n k p i (Err FewSlots) sm sn sk a z d = absurd d.1
+  take-window m n k p i (Err PastEnd) sm sn sk a z d =
+      let e = run-windows cmp o m n sn p.partition z p refl in
+      ((ap (λ x. joint cmp x n) d.0, omega (arith, ap length e, d.1)), apiece-windows m n k d.0 a)
 
   -- ---- sets
 
@@ -195,9 +206,12 @@ module _ {K V : Type 0} (cmp : K → K → Ordering) (o : Total (before (place_o
         },
         apiece-same m n m k a d.same_partitions refl (λ q. refl) e,
       )
-  set-side m n k p i v (Err e) sn sk a h d =
-      let l = ap length (run-side cmp o m n sn p.partition (a.apart p.partition h) p refl) in
-      ((ap (joint cmp m) d.0, causes_map (λ x. x) (λ x. omega (arith, x)) e d.1), subst (Apiece m) (sym d.0) a)
+  set-side m n k p i v (Err Unsound) sn sk a h d = absurd d.1
+  set-side m n k p i v (Err NoSpace) sn sk a h d = absurd d.1
+  set-side m n k p i v (Err FewSlots) sn sk a h d = absurd d.1
+  set-side m n k p i v (Err PastEnd) sn sk a h d =
+      let e = run-side cmp o m n sn p.partition (a.apart p.partition h) p refl in
+      ((ap (joint cmp m) d.0, omega (arith, ap length e, d.1)), subst (Apiece m) (sym d.0) a)
 
   pub set-window : (m n k : Meaning K V) (p : Place K) (i : ℕ) (v : V) (r : Result Unit Refusal) → Sound cmp m → Sound cmp n → Sound cmp k → Apiece m n → values_in n p.partition ≡ 0 → Set cmp m k p i v r → Set cmp (joint cmp m n) (joint cmp k n) p i v r × Apiece k n
   set-window m n k p i v (Ok _) sm sn sk a z d =
@@ -210,9 +224,12 @@ module _ {K V : Type 0} (cmp : K → K → Ordering) (o : Total (before (place_o
         },
         apiece-same m n k n a refl d.same_partitions e (λ q. refl),
       )
-  set-window m n k p i v (Err e) sm sn sk a z d =
-      let l = ap length (run-windows cmp o m n sn p.partition z p refl) in
-      ((ap (λ x. joint cmp x n) d.0, causes_map (λ x. x) (λ x. omega (arith, x)) e d.1), apiece-windows m n k d.0 a)
+  set-window m n k p i v (Err Unsound) sm sn sk a z d = absurd d.1
+  set-window m n k p i v (Err NoSpace) sm sn sk a z d = absurd d.1
+  set-window m n k p i v (Err FewSlots) sm sn sk a z d = absurd d.1
+  set-window m n k p i v (Err PastEnd) sm sn sk a z d =
+      let e = run-windows cmp o m n sn p.partition z p refl in
+      ((ap (λ x. joint cmp x n) d.0, omega (arith, ap length e, d.1)), apiece-windows m n k d.0 a)
 
   -- ---- runs removed
 

@@ -9,7 +9,7 @@ use crate::spills::Spills;
 use crate::stop::Stop;
 use crate::subkey::SubKey;
 use crate::value::Value;
-use book::{Book, Weighing, WeighingDisplay};
+use book::{Book, Weighing};
 use keys::{Key, Label};
 use pile::Pile;
 use script::{Line, Opening, StoreName, TranslatorName, ValuesName};

@@ -1,5 +1,5 @@
 // The values that a script can book.
-use book::{Weighing, WeighingDisplay};
+use book::Weighing;
 use std::fmt;
 use words::ValueWord;
 

@@ -4,8 +4,8 @@ use Rattle.std.proofs.lemmas.List.{nil_from_length}
 use Rattle.keys.specs.declared.place.Place.{Place}
 use Rattle.contents.proofs.Laws.{length-in}
 use Rattle.store.specs.declared.refusal.Refusal.{Refusal}
+use Rattle.store.specs.declared.refusal.Refusal.TheVariants.{Unsound, NoSpace, FewSlots, PastEnd}
 use Rattle.store.specs.Meaning.{Meaning, run_at, Take, Removed}
-use Rattle.store.proofs.Why.{causes_map, causes_never}
 
 -- some values of the run at p are gone
 pub record Thins {K V : Type 0} (cmp : K → K → Ordering) (m n : Meaning K V) (p : Place K) : Type 0 where
@@ -45,4 +45,7 @@ module _ {K V : Type 0} (cmp : K → K → Ordering) where
         },
         omega arith,
       )
-  thin_more m n k p (Err e) t pos d = absurd (causes_never e (causes_map (λ h. h) (λ h. omega arith) e d.1))
+  thin_more m n k p (Err Unsound) t pos d = absurd d.1
+  thin_more m n k p (Err NoSpace) t pos d = absurd d.1
+  thin_more m n k p (Err FewSlots) t pos d = absurd d.1
+  thin_more m n k p (Err PastEnd) t pos d = let e = d.1 in absurd (omega arith)

@@ -7,7 +7,7 @@ use Rattle.keys.specs.declared.place.Place.{Place}
 use Rattle.contents.specs.Entries.{Entry, places, Rising, run, items, amount, first_that, last_that}
 use Rattle.contents.specs.Changes.{Gains, Sets, Clears}
 use Rattle.store.specs.declared.refusal.Refusal.{Refusal}
-use Rattle.store.specs.Refusals.{Causes}
+use Rattle.store.specs.declared.refusal.Refusal.TheVariants.{Unsound, NoSpace, FewSlots, PastEnd}
 
 pub record Meaning (K V : Type 0) : Type 0 where
   pub contents : List (Entry (Place K) V)
@@ -73,11 +73,17 @@ module _ {K V : Type 0} (cmp : K → K → Ordering) where
 
   -- of a put: no space comes first
   abbrev pub WhyPut : Meaning K V → Place K → ℕ → Refusal → Type 0
-  WhyPut m p i e = Causes (m.space p.partition ≡ 0) ((0 < m.space p.partition) × (length (run_at m p) < i)) e
+  WhyPut m p i Unsound = ⊥
+  WhyPut m p i NoSpace = m.space p.partition ≡ 0
+  WhyPut m p i FewSlots = ⊥
+  WhyPut m p i PastEnd = (0 < m.space p.partition) × (length (run_at m p) < i)
 
   -- of a take, and of a set
   abbrev pub WhyTake : Meaning K V → Place K → ℕ → Refusal → Type 0
-  WhyTake m p i e = Causes ⊥ (length (run_at m p) ≤ i) e
+  WhyTake m p i Unsound = ⊥
+  WhyTake m p i NoSpace = ⊥
+  WhyTake m p i FewSlots = ⊥
+  WhyTake m p i PastEnd = length (run_at m p) ≤ i
 
   -- ---- the calls, by the cases of their answers; a refused call leaves the store as it was
 

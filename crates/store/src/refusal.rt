@@ -6,12 +6,7 @@ ghost use Rattle.store.specs.Refusals.{number};
 #[derive(Clone, Copy)]
 pub enum Refusal {
     Unsound,
-    EditOpen,
-    NoEdit,
-    NeedsNext,
-    NothingActive,
     NoSpace,
-    BadBatch,
     FewSlots,
     PastEnd,
 }
@@ -23,12 +18,7 @@ impl Refusal {
     {
         match self {
             Refusal::Unsound => 1,
-            Refusal::EditOpen => 2,
-            Refusal::NoEdit => 3,
-            Refusal::NeedsNext => 4,
-            Refusal::NothingActive => 5,
             Refusal::NoSpace => 6,
-            Refusal::BadBatch => 7,
             Refusal::FewSlots => 8,
             Refusal::PastEnd => 9,
         }

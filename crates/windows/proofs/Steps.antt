@@ -17,8 +17,8 @@ use Rattle.contents.proofs.Laws.{length-in, gains, rising-in, rising-out, loses,
 use Rattle.contents.proofs.Amounts.{amount-fits}
 use Rattle.arrays.specs.Cells.{put_at, cut}
 use Rattle.store.specs.declared.refusal.Refusal.{Refusal}
+use Rattle.store.specs.declared.refusal.Refusal.TheVariants.{Unsound, NoSpace, FewSlots, PastEnd}
 use Rattle.store.specs.Meaning.{Meaning, Sound, Windows, PutDone, TakeDone, SetDone, Removed, WhyPut, WhyTake, Put, Take, Set, in_part, run_at, first_in, last_in, next_in, previous_in}
-use Rattle.store.proofs.Why.{causes_map}
 use Rattle.windows.specs.Windows.{spot, used, window, spare, cells_meaning, cells_of, with_window, Counts, Sorts, Idle, Slot, Ranged, run_count, PutSlot, HeldSlot}
 use Rattle.windows.proofs.Alongside.{length-entries, places-entries, entries-in, entries-out, entries-gap, entries-set, rising-entries, length_run, key_at}
 use Rattle.windows.proofs.Gaps.{rising-gap, clears-gap}
@@ -471,10 +471,16 @@ module _ {K V : Type 0} {cmp : K → K → Ordering} (l : Lawful cmp) (ks : List
   -- ---- what a slot that is refused means
 
   why_put : (p : Place K) (i : ℕ) (e : Refusal) → PutSlot cmp ks ns w n p i (Err e) → WhyPut cmp m p i e
-  why_put p i e h = let c = count-f p in causes_map (λ x. x) (λ x. (x.0, omega (arith, x.1))) e h
+  why_put p i Unsound h = absurd h
+  why_put p i NoSpace h = h
+  why_put p i FewSlots h = absurd h
+  why_put p i PastEnd h = let c = count-f p in let d = h.1 in (h.0, omega arith)
 
   why_held : (p : Place K) (i : ℕ) (e : Refusal) → HeldSlot cmp ks ns w n p i (Err e) → WhyTake cmp m p i e
-  why_held p i e h = let c = count-f p in causes_map (λ x. x) (λ x. omega (arith, x)) e h
+  why_held p i Unsound h = absurd h
+  why_held p i NoSpace h = absurd h
+  why_held p i FewSlots h = absurd h
+  why_held p i PastEnd h = let c = count-f p in omega arith
 
   module _ (p : Place K) (i : ℕ) (e : Refusal) where
     pub put_refused : (v : V) (r : Result Unit Refusal) → r ≡ Err e → PutSlot cmp ks ns w n p i (Err e) → Put cmp m m p i v r

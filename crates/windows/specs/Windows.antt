@@ -7,7 +7,7 @@ use Rattle.keys.specs.declared.place.Place.{Place}
 use Rattle.contents.specs.Sorted.{Sorted, below, upto}
 use Rattle.contents.specs.Entries.{Entry, entry, entries}
 use Rattle.store.specs.declared.refusal.Refusal.{Refusal}
-use Rattle.store.specs.Refusals.{Causes}
+use Rattle.store.specs.declared.refusal.Refusal.TheVariants.{Unsound, NoSpace, FewSlots, PastEnd}
 use Rattle.store.specs.Meaning.{Meaning, void}
 
 -- a key in partition q
@@ -114,9 +114,15 @@ module _ {K : Type 0} (cmp : K → K → Ordering) (ks : List K) (ns : List ℕ)
   -- where a put goes
   abbrev pub PutSlot : Result (ℕ × ℕ) Refusal → Type 0
   PutSlot (Ok r) = Slot r.0 r.1 × (r.0 < w)
-  PutSlot (Err e) = Causes (spare ns w n p.partition ≡ 0) ((0 < spare ns w n p.partition) × (run_count < i)) e
+  PutSlot (Err Unsound) = ⊥
+  PutSlot (Err NoSpace) = spare ns w n p.partition ≡ 0
+  PutSlot (Err FewSlots) = ⊥
+  PutSlot (Err PastEnd) = (0 < spare ns w n p.partition) × (run_count < i)
 
   -- where a value is held
   abbrev pub HeldSlot : Result (ℕ × ℕ) Refusal → Type 0
   HeldSlot (Ok r) = Slot r.0 r.1 × (i < run_count) × (r.1 < r.0)
-  HeldSlot (Err e) = Causes ⊥ (run_count ≤ i) e
+  HeldSlot (Err Unsound) = ⊥
+  HeldSlot (Err NoSpace) = ⊥
+  HeldSlot (Err FewSlots) = ⊥
+  HeldSlot (Err PastEnd) = run_count ≤ i

@@ -1,15 +1,25 @@
-use Rattle.std.proofs.Common.{subst}
-use Rattle.history.specs.Calls.{change, insert}
-use Rattle.history.specs.Table.{Step}
-use Rattle.book.specs.Answers.{done}
-use Rattle.book.specs.Books.{table}
-use Rattle.book.proofs.Stepping.{after}
-use Rattle.book.proofs.Changing.{appends}
+use Rattle.std.proofs.Common.{arith}
+use Rattle.book.proofs.Append.{keys_fit, appended_first, appended_later}
 use Rattle.book.proofs.book.Book.insert.Goals as goal
 
-pub returns : goal.returns
-returns g c =
-    let b = c.args.self.now in
+pub overflow-add-self-then-end-eq0 : goal.overflow-add-self-then-end-eq0
+overflow-add-self-then-end-eq0 g c =
+    omega (arith, keys_fit g.S.Store.meaning g.S.Store.ok g.met.Key.Key.lawful c.args.self.now c.requires c.in-ok-place.ensures.0)
+
+pub returns-then-end-eq0 : goal.returns-then-end-eq0
+returns-then-end-eq0 g c =
     let at = c.in-ok-place.ensures in
-    let d = appends g.S.Store.meaning g.S.Store.ok g.Key.Key.ordered g.T.Translator.meaning b c.requires at.1 at.2 at.4 c.in-ok-place.place c.insert-at.new.self c.run-len-end.result c.args.value c.insert-at.result c.run-len-end.ensures c.insert-at.ensures.ok c.insert-at.ensures.does in
-    record { ok = d.0; does = subst (λ p. Step g.Key.Key.ordered (table g.S.Store.meaning g.T.Translator.meaning b) (change p (insert c.args.value)) (done c.insert-at.result) _) at.0 d.1 }
+    let done = c.in-ok-put.ensures in
+    let h =
+    appended_first g.S.Store.meaning g.S.Store.ok g.met.Key.Key.lawful c.args.self.now c.requires at.0 c.put.new.self done.ok c.sound.ensures c.sound-2.ensures
+    c.in-ok-place.place _ c.run-len-end.result c.args.value at.1 c.run-len-end.ensures (omega arith) done.does c.if-end-eq0.true in
+    record { ok = h.0; does = h.1 }
+
+pub returns-else-end-eq0 : goal.returns-else-end-eq0
+returns-else-end-eq0 g c =
+    let at = c.in-ok-place.ensures in
+    let done = c.in-ok-put.ensures in
+    let h =
+    appended_later g.S.Store.meaning g.S.Store.ok g.met.Key.Key.lawful c.args.self.now c.requires at.0 c.put.new.self done.ok c.sound.ensures c.sound-2.ensures
+    c.in-ok-place.place _ c.run-len-end.result c.args.value at.1 c.run-len-end.ensures (omega arith) done.does c.if-end-eq0.false in
+    record { ok = h.0; does = h.1 }

@@ -1,0 +1,13 @@
+use Rattle.std.proofs.Common.{rules}
+use Rattle.translate.specs.Keeping.{place-keeps}
+use Rattle.book.specs.State.{bytes}
+use Rattle.book.proofs.Near.{first-all}
+use Rattle.book.proofs.book.Book.first.Goals as goal
+
+pub returns : goal.returns
+returns g c =
+    let b = c.args.self.now in
+    record {
+      place = (c.in-ok-opened.ensures.0, first-all (g.S.Store.meaning b.store) c.first-from.result c.first-from.ensures);
+      keeps = place-keeps g.Key.Key.ordered (bytes b.prefix) (g.T.Translator.meaning b.translator) (g.met.T.OrderedTranslator.keeps b.translator);
+    }

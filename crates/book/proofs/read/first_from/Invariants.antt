@@ -1,0 +1,5 @@
+use Rattle.book.proofs.Near.{Bare}
+use Rattle.book.proofs.read.first_from.Given as goal
+
+abbrev pub invariant-loop-q : goal.invariant-loop-q
+invariant-loop-q g l = Bare g.Key.Key.ordered (g.S.Store.meaning l.store) l.from l.q
