@@ -1,4 +1,6 @@
 // Searches and changes in sorted arrays that are handed in, as slices.
+#![tactic(auto)]
+
 mod bounds;
 mod cells;
 mod runs;

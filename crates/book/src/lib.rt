@@ -1,4 +1,6 @@
 // The lot book: runs of values under byte keys, over any store.
+#![tactic(auto)]
+
 mod book;
 mod counts;
 mod read;

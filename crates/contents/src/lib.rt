@@ -1,4 +1,6 @@
 // What a store holds, and the laws of a change. Each law is the contract of a function, so that the crate is not proved without it.
+#![tactic(auto)]
+
 ghost use Rattle.std.specs.Prelude.{◌≡◌, ℕ, ◌+◌, ◌<◌, ◌≤◌, List, length, if◌then◌else◌, slice_index_or, slice_set};
 ghost use Rattle.std.specs.List.{insert, remove};
 ghost use Rattle.keys.specs.Order.{before};

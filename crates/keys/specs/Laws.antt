@@ -5,7 +5,7 @@ use Rattle.std.specs.declared.cmp.Ordering.{Ordering}
 use Rattle.std.proofs.Common.{sym, ap, ◌∙◌, true≢false}
 use Rattle.std.specs.Ordering.{ordering_reverse, ordering_then, is_lt, is_gt, nat_cmp}
 use Rattle.std.specs.Cmp.{nat_cmp_total, ranks, below_irrefl, below_chain, means}
-use Rattle.std.specs.Cmp.Lexicographic.{lexical}
+use Rattle.std.specs.Cmp.Lexicographic.{nat_list_cmp_total}
 use Rattle.keys.specs.Order.{Lawful}
 use Rattle.keys.specs.Orders.{bytes_order, label_order, place_order}
 use Rattle.keys.specs.declared.label.Label.{Label}
@@ -36,9 +36,9 @@ bytes_same (x ∷ xs) (y ∷ ys) e =
 
 pub labels_lawful : Lawful label_order
 labels_lawful = record {
-  turned = λ x y. (lexical nat_cmp_total).flip x.bytes y.bytes;
+  turned = λ x y. nat_list_cmp_total.antisymm x.bytes y.bytes;
   same = λ x y e. let b = bytes_same x.bytes y.bytes e in λ i. record { bytes = b i };
-  carries = λ x y z. (lexical nat_cmp_total).trans x.bytes y.bytes z.bytes;
+  carries = λ x y z. nat_list_cmp_total.trans x.bytes y.bytes z.bytes;
 }
 
 -- ---- places

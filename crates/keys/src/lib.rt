@@ -1,4 +1,6 @@
 // Keys and their one order: numbers, labels, and places of any key.
+#![tactic(auto)]
+
 mod key;
 mod label;
 mod place;

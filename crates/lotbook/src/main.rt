@@ -1,4 +1,6 @@
 // Reads a script from standard input, and prints one line of answer for each command.
+#![tactic(auto)]
+
 use anyhow::anyhow;
 use runner::run_script;
 use std::io::Read;

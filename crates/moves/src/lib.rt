@@ -1,4 +1,6 @@
 // The move of a partition from a windowed store to another store.
+#![tactic(auto)]
+
 ghost use Rattle.std.specs.Prelude.{◌≡◌, ◌<◌, ◌≤◌, length};
 ghost use Rattle.store.specs.Meaning.{Sound, PutDone, run_at, values_in};
 ghost use Rattle.moves.specs.Moving.{Appended, Moved};

@@ -1,4 +1,6 @@
 // A pile: windows, and a side that takes over a partition whose window is full.
+#![tactic(auto)]
+
 ghost use Rattle.std.specs.Prelude.{◌≡◌, ◌+◌, ◌%◌, ◌^◌, ◌<◌, ◌≤◌};
 ghost use Rattle.store.specs.Meaning.{Put, Take, Set, Removed, values_in};
 ghost use Rattle.moves.specs.Moving.{Moved};

@@ -1,4 +1,6 @@
 // Runs a script over books: one line of answer for each line that is no comment.
+#![tactic(auto)]
+
 mod answer;
 mod fault;
 mod memory;

@@ -1,4 +1,6 @@
 // Scripts and their answers.
+#![tactic(auto)]
+
 #[cfg(test)]
 mod tests {
     use runner::run_script;

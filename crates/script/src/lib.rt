@@ -1,4 +1,6 @@
 // Scripts: from the bytes of a script to typed commands, one a line.
+#![tactic(auto)]
+
 mod command;
 mod line;
 mod opening;

@@ -1,4 +1,6 @@
 // Scripts, and what their lines are read as.
+#![tactic(auto)]
+
 #[cfg(test)]
 mod shown;
 

@@ -1,4 +1,6 @@
 // The side-table: a sorted array of places with a value beside each, over memory handed in.
+#![tactic(auto)]
+
 mod partitions;
 
 ghost use Rattle.std.specs.Prelude.{◌≡◌, length};

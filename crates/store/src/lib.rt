@@ -1,4 +1,6 @@
 // What every store means, its interface, and the refusals of the lot book.
+#![tactic(auto)]
+
 mod refusal;
 mod store;
 

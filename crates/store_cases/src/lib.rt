@@ -1,4 +1,6 @@
 // One user of the store interface, over every store.
+#![tactic(auto)]
+
 #[cfg(test)]
 mod user;
 

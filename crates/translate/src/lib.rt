@@ -1,4 +1,6 @@
 // From a key, which is bytes, to its place: the split and the translators.
+#![tactic(auto)]
+
 mod cap;
 mod fold;
 mod label;

@@ -1,4 +1,6 @@
 // Translators and splits on examples from outside.
+#![tactic(auto)]
+
 #[cfg(test)]
 mod tests {
     use std::test::Fail;

@@ -1,4 +1,6 @@
 // The words of a script's line: numbers, keys and values, and why a line is wrong.
+#![tactic(auto)]
+
 mod digits;
 mod reason;
 mod words;
