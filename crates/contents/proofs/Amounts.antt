@@ -1,10 +1,10 @@
 -- Of the places that pass a test: how many values they have, and which is first and last, by the runs alone. Assumes nothing.
-use Rattle.std.proofs.Common.{◌≡◌, ℕ, zero, suc, ◌+◌, ◌<◌, ◌≤◌, Bool, true, false, cond, not, List, [], ◌∷◌, ◌++◌, reverse, length, Some, None, Option, sym, refl, ap, ◌∙◌, subst, ⊎_elim, arith}
+use Rattle.std.proofs.Common.{◌≡◌, ℕ, zero, suc, ◌+◌, ◌<◌, ◌≤◌, Bool, true, false, cond, List, [], ◌∷◌, ◌++◌, reverse, length, Some, None, sym, refl, ap, ◌∙◌, subst, ⊎_elim, arith}
 use Rattle.std.specs.List.{insert}
 use Rattle.std.proofs.lemmas.List.{reverse-append, append-nil, nil_from_length}
 use Rattle.std.proofs.lemmas.Bool.{cases_Bool, both_ways}
 use Rattle.keys.specs.Order.{Total}
-use Rattle.contents.specs.Sorted.{Sorted, count, below}
+use Rattle.contents.specs.Sorted.{count, below}
 use Rattle.contents.specs.Entries.{Entry, entry, places, Rising, same, run, items, amount, first_that, last_that}
 use Rattle.contents.specs.Changes.{Gains, Sets, Clears}
 use Rattle.contents.proofs.Laws.{one_at_most, From, Up, sorted-up, up_sorted, skip, hold, same_self, same-is, extensional, put_is}

@@ -5,7 +5,7 @@ use Rattle.std.proofs.lemmas.List.{length-take, length-drop, nil_from_length}
 use Rattle.std.proofs.lemmas.Bool.{cases_Bool, not-true, not-false}
 use Rattle.keys.specs.Order.{Total}
 use Rattle.contents.specs.Sorted.{Sorted, count, below, upto}
-use Rattle.contents.specs.Entries.{entries, same, run}
+use Rattle.contents.specs.Entries.{entries, run}
 use Rattle.contents.proofs.Order.{chain_on, chain_not, before-not_after}
 
 -- n parts the keys that pass from the others

@@ -1,10 +1,10 @@
 -- The counts follow from how long the runs are; and a run taken out whole. Assumes nothing.
-use Rattle.std.proofs.Common.{◌≡◌, ℕ, zero, suc, ◌+◌, ◌-◌, ◌<◌, ◌≤◌, Bool, true, false, cond, not, ◌⊎◌, List, [], ◌∷◌, ◌++◌, map, length, get_or, take, drop, set, sym, refl, ap, ◌∙◌, subst, inl, inr, ⊎_elim, arith}
+use Rattle.std.proofs.Common.{◌≡◌, ℕ, suc, ◌+◌, Bool, true, false, cond, List, [], ◌∷◌, map, length, sym, refl, ap, ◌∙◌, subst, ⊎_elim, arith}
 use Rattle.std.proofs.lemmas.List.{length-map, length-set}
 use Rattle.std.proofs.lemmas.Bool.{cases_Bool, both_ways}
 use Rattle.keys.specs.Order.{Total}
 use Rattle.contents.specs.Sorted.{Sorted}
-use Rattle.contents.specs.Entries.{Entry, entry, places, Rising, same, run, none, held, keys, items}
+use Rattle.contents.specs.Entries.{Entry, entry, places, Rising, same, run, none, keys, items}
 use Rattle.contents.specs.Changes.{Sets, Clears}
 use Rattle.contents.proofs.Laws.{From, Up, sorted-up, up_sorted, tally, tally-is, skip, hold, same_self, same-is, extensional}
 

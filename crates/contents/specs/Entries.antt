@@ -1,6 +1,6 @@
 -- Entries: places with a value each, in rising order. Assumes nothing.
 -- The places in rising order, each with its run of at least one value, are `held` and `run`.
-use Rattle.std.specs.Prelude.{◌≡◌, ℕ, Bool, true, false, cond, not, List, [], ◌∷◌, map, reverse, length, Some, None, Option}
+use Rattle.std.specs.Prelude.{ℕ, Bool, true, false, cond, not, List, [], ◌∷◌, map, reverse, length, Some, None, Option}
 use Rattle.std.specs.List.{insert}
 use Rattle.contents.specs.Sorted.{Sorted, count, below}
 

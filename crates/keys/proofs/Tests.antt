@@ -1,5 +1,5 @@
 -- A lawful order by its test. Assumes nothing.
-use Rattle.std.proofs.Common.{◌≡◌, Bool, true, false, Ordering, Less, Equal, Greater, sym, refl, ap, ◌∙◌, true≢false}
+use Rattle.std.proofs.Common.{◌≡◌, true, false, Ordering, Less, Equal, Greater, sym, refl, ap, ◌∙◌, true≢false}
 use Rattle.std.specs.Ordering.{ordering_reverse, is_lt}
 use Rattle.keys.specs.Order.{Lawful, before, Total}
 

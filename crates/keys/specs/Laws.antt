@@ -8,8 +8,6 @@ use Rattle.std.specs.Cmp.{nat_cmp_total, ranks, below_irrefl, below_chain, means
 use Rattle.std.specs.Cmp.Lexicographic.{nat_list_cmp_total}
 use Rattle.keys.specs.Order.{Lawful}
 use Rattle.keys.specs.Orders.{bytes_order, label_order, place_order}
-use Rattle.keys.specs.declared.label.Label.{Label}
-use Rattle.keys.specs.declared.place.Place.{Place}
 
 -- ---- numbers
 
