@@ -16,18 +16,18 @@ loop-place-init g c =
     )
 
 -- what one turn does
-turn : (g : _) (c : goal.After-sound-in-Some g) → Moving g.Key.Key.ordered (g.W.Store.meaning c.args.windows.now) (g.S.Store.meaning c.args.side.now) (g.W.Store.meaning c.remove-run.new.self) (g.S.Store.meaning c.copy-run.new.to) c.args.partition × (values_in (g.W.Store.meaning c.remove-run.new.self) c.args.partition < values_in (g.W.Store.meaning c.loop-place.windows) c.args.partition)
+turn : (g : _) (c : goal.After-sound-in-Some g) → Moving g.Key.Key.ordered (g.W.Store.meaning c.args.windows.now) (g.S.Store.meaning c.args.side.now) (g.W.Store.meaning c.remove_run.new.self) (g.S.Store.meaning c.copy_run.new.to) c.args.partition × (values_in (g.W.Store.meaning c.remove_run.new.self) c.args.partition < values_in (g.W.Store.meaning c.loop-place.windows) c.args.partition)
 turn g c =
     let cmp = g.Key.Key.ordered in
     let o = total (places-lawful cmp g.met.Key.Key.lawful) in
     let w = g.W.Store.meaning in
     let s = g.S.Store.meaning in
     let h = first-place cmp o (w c.loop-place.windows) c.args.partition c.in-Some.place c.in-Some.ensures in
-    moving_turn cmp o (w c.args.windows.now) (s c.args.side.now) (w c.loop-place.windows) (s c.loop-place.side) (w c.remove-run.new.self) (s c.copy-run.new.to)
-    c.in-Some.place c.args.partition h.0 h.1 c.loop-place.invariant.3 c.loop-place.invariant.2 c.sound-in-Some.ensures c.copy-run.ensures.does c.remove-run.ensures.does
+    moving_turn cmp o (w c.args.windows.now) (s c.args.side.now) (w c.loop-place.windows) (s c.loop-place.side) (w c.remove_run.new.self) (s c.copy_run.new.to)
+    c.in-Some.place c.args.partition h.0 h.1 c.loop-place.invariant.3 c.loop-place.invariant.2 c.sound-in-Some.ensures c.copy_run.ensures.does c.remove_run.ensures.does
 
-pub copy-run-requires : goal.copy-run-requires
-copy-run-requires g c =
+pub copy_run-requires : goal.copy_run-requires
+copy_run-requires g c =
     let cmp = g.Key.Key.ordered in
     let o = total (places-lawful cmp g.met.Key.Key.lawful) in
     let v = c.loop-place.invariant.3 in
@@ -43,7 +43,7 @@ pub loop-place-smaller : goal.loop-place-smaller
 loop-place-smaller g c = (turn g c).1
 
 pub loop-place-preserved : goal.loop-place-preserved
-loop-place-preserved g c = (c.remove-run.ensures.ok, c.copy-run.ensures.ok, c.sound-in-Some.ensures, (turn g c).0)
+loop-place-preserved g c = (c.remove_run.ensures.ok, c.copy_run.ensures.ok, c.sound-in-Some.ensures, (turn g c).0)
 
 pub returns : goal.returns
 returns g c =
@@ -55,5 +55,5 @@ returns g c =
       side = c.loop-place.invariant.1;
       moved =
           moving_all cmp o (g.W.Store.meaning c.args.windows.now) (g.S.Store.meaning c.args.side.now) m1 (g.S.Store.meaning c.loop-place.side) c.args.partition
-          c.loop-place.invariant.3 (no_place cmp o m1 c.args.partition c.in-default.ensures);
+          c.loop-place.invariant.3 (no_place cmp o m1 c.args.partition c.in_default.ensures);
     }

@@ -6,8 +6,8 @@ use Rattle.contents.proofs.Bounds.{upto-parts}
 use Rattle.arrays.proofs.Searches.{not_greater, at-any}
 use Rattle.arrays.proofs.bounds.run_starting_at.Goals as goal
 
-pub run-end-end-requires : goal.run-end-end-requires
-run-end-end-requires g c =
+pub run_end-end-requires : goal.run_end-end-requires
+run_end-end-requires g c =
     let o = total g.met.K.Key.lawful in
     let x = c.index-keys-idx.result in
     let own = not_greater o c.args.keys.now c.requires.sorted c.args.idx x c.requires.within c.index-keys-idx.is x (sym (o.irrefl x)) in
@@ -22,7 +22,7 @@ returns g c =
     let all = (upto-parts o ks x c.requires.sorted).within in
     record {
       start = refl;
-      end = at-any (upto (before g.K.Key.ordered) ks) ks c.args.idx x c.run-end-end.result c.requires.within c.index-keys-idx.is c.run-end-end.ensures;
+      end = at-any (upto (before g.K.Key.ordered) ks) ks c.args.idx x c.run_end-end.result c.requires.within c.index-keys-idx.is c.run_end-end.ensures;
       ordered = omega arith;
       within = omega arith;
     }

@@ -9,5 +9,5 @@ returns-then-keys-eq0 g c =
 
 pub returns : goal.returns
 returns g c =
-    let r = c.run-starting-at-start in
+    let r = c.run_starting_at-start in
     first_part (total g.met.K.Key.lawful) c.args.keys.now c.args.values.now c.requires.sorted c.requires.alongside r.result.start r.result.end (omega arith) r.ensures.start r.ensures.end

@@ -9,6 +9,6 @@ returns-then-idx-keys g c =
 
 pub returns : goal.returns
 returns g c =
-    let r = c.run-starting-at-start in
+    let r = c.run_starting_at-start in
     next-part (total g.met.K.Key.lawful) c.args.keys.now c.args.values.now c.requires.sorted c.requires.alongside r.result.start r.result.end c.args.key.now
-    c.upper-bound-idx.result c.upper-bound-idx.ensures (omega arith) r.ensures.start r.ensures.end
+    c.upper_bound-idx.result c.upper_bound-idx.ensures (omega arith) r.ensures.start r.ensures.end

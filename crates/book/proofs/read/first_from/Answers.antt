@@ -8,7 +8,7 @@ returns-in-Some g c =
 
 pub loop-q-preserved : goal.loop-q-preserved
 loop-q-preserved g c =
-    bare-up g.met.Key.Key.lawful (g.S.Store.meaning c.args.store.now) c.sound.ensures c.args.from c.loop-q.q c.loop-q.invariant c.in-default.ensures
+    bare-up g.met.Key.Key.lawful (g.S.Store.meaning c.args.store.now) c.sound.ensures c.args.from c.loop-q.q c.loop-q.invariant c.in_default.ensures
 
 pub returns : goal.returns
 returns g c =

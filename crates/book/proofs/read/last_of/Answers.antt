@@ -9,7 +9,7 @@ returns-in-Some g c =
 pub loop-q-preserved : goal.loop-q-preserved
 loop-q-preserved g c =
     let m = g.S.Store.meaning c.args.store.now in
-    bare-down g.met.Key.Key.lawful m c.sound.ensures (c.loop-q.q - 1) m.partitions (λ p x y. c.loop-q.invariant p (omega arith) y) c.in-default.ensures
+    bare-down g.met.Key.Key.lawful m c.sound.ensures (c.loop-q.q - 1) m.partitions (λ p x y. c.loop-q.invariant p (omega arith) y) c.in_default.ensures
 
 pub returns : goal.returns
 returns g c = last_none g.met.Key.Key.lawful (g.S.Store.meaning c.args.store.now) c.sound.ensures (λ p x y. c.loop-q.invariant p (omega arith) y)

@@ -22,4 +22,4 @@ returns-in-Side g c =
     let m = g.W.Store.meaning c.args.self.now.windows in
     let n = g.S.Store.meaning c.args.self.now.side in
     let at = c.in-Side.ensures in
-    c.first-in-in-Side.ensures ∙ first-joint cmp o m n n c.args.partition at.0.known.side at.0.known.side (run-side cmp o m n at.0.known.side c.args.partition (at.0.apiece.apart c.args.partition at.1)) ∙ ap (λ x. first_in cmp x c.args.partition) (live-is cmp c.args.self.now.live m n at.0.is_live)
+    c.first_in-in-Side.ensures ∙ first-joint cmp o m n n c.args.partition at.0.known.side at.0.known.side (run-side cmp o m n at.0.known.side c.args.partition (at.0.apiece.apart c.args.partition at.1)) ∙ ap (λ x. first_in cmp x c.args.partition) (live-is cmp c.args.self.now.live m n at.0.is_live)

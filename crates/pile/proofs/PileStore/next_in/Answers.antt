@@ -22,4 +22,4 @@ returns-in-Side g c =
     let m = g.W.Store.meaning c.args.self.now.windows in
     let n = g.S.Store.meaning c.args.self.now.side in
     let at = c.in-Side.ensures in
-    c.next-in-in-Side.ensures ∙ next-joint cmp o m n n c.args.place.now at.0.known.side at.0.known.side (run-side cmp o m n at.0.known.side c.args.place.now.partition (at.0.apiece.apart c.args.place.now.partition at.1)) ∙ ap (λ x. next_in cmp x c.args.place.now) (live-is cmp c.args.self.now.live m n at.0.is_live)
+    c.next_in-in-Side.ensures ∙ next-joint cmp o m n n c.args.place.now at.0.known.side at.0.known.side (run-side cmp o m n at.0.known.side c.args.place.now.partition (at.0.apiece.apart c.args.place.now.partition at.1)) ∙ ap (λ x. next_in cmp x c.args.place.now) (live-is cmp c.args.self.now.live m n at.0.is_live)

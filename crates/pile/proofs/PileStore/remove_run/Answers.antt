@@ -12,11 +12,11 @@ returns-in-Window g c =
     let o = total (places-lawful cmp g.met.W.Key.Key.lawful) in
     let m = g.W.Store.meaning c.args.self.now.windows in
     let n = g.S.Store.meaning c.args.self.now.side in
-    let k = g.W.Store.meaning c.remove-run.new.self in
+    let k = g.W.Store.meaning c.remove_run.new.self in
     let at = c.in-Window.ensures in
-    let t = remove-window cmp o m n k c.args.place.now at.0.known.windows at.0.known.side c.sound.ensures at.0.apiece at.1 c.remove-run.ensures.does in
+    let t = remove-window cmp o m n k c.args.place.now at.0.known.windows at.0.known.side c.sound.ensures at.0.apiece at.1 c.remove_run.ensures.does in
     record {
-      ok = record { windows = c.remove-run.ensures.ok; side = c.requires.side; apiece = λ e. t.1 };
+      ok = record { windows = c.remove_run.ensures.ok; side = c.requires.side; apiece = λ e. t.1 };
       does = lift cmp (λ x y. Removed cmp x y c.args.place.now) c.args.self.now.live c.args.self.now.live m n k n at.0.is_live refl t.0;
       same = refl {a = c.args.self.now.spills};
     }
@@ -27,11 +27,11 @@ returns-in-Side g c =
     let o = total (places-lawful cmp g.met.W.Key.Key.lawful) in
     let m = g.W.Store.meaning c.args.self.now.windows in
     let n = g.S.Store.meaning c.args.self.now.side in
-    let k = g.S.Store.meaning c.remove-run-in-Side.new.self in
+    let k = g.S.Store.meaning c.remove_run-in-Side.new.self in
     let at = c.in-Side.ensures in
-    let t = remove-side cmp o m n k c.args.place.now at.0.known.side c.sound-in-Side.ensures at.0.apiece at.1 c.remove-run-in-Side.ensures.does in
+    let t = remove-side cmp o m n k c.args.place.now at.0.known.side c.sound-in-Side.ensures at.0.apiece at.1 c.remove_run-in-Side.ensures.does in
     record {
-      ok = record { windows = c.requires.windows; side = c.remove-run-in-Side.ensures.ok; apiece = λ e. t.1 };
+      ok = record { windows = c.requires.windows; side = c.remove_run-in-Side.ensures.ok; apiece = λ e. t.1 };
       does = lift cmp (λ x y. Removed cmp x y c.args.place.now) c.args.self.now.live c.args.self.now.live m n m k at.0.is_live refl t.0;
       same = refl {a = c.args.self.now.spills};
     }

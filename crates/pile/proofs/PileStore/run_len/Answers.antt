@@ -13,7 +13,7 @@ returns-in-Window g c =
     let m = g.W.Store.meaning c.args.self.now.windows in
     let n = g.S.Store.meaning c.args.self.now.side in
     let at = c.in-Window.ensures in
-    c.run-len.ensures ∙ ap (λ xs. length xs) (sym (run-windows cmp o m n at.0.known.side c.args.place.now.partition at.1 c.args.place.now refl)) ∙ ap (λ x. length (run_at cmp x c.args.place.now)) (live-is cmp c.args.self.now.live m n at.0.is_live)
+    c.run_len.ensures ∙ ap (λ xs. length xs) (sym (run-windows cmp o m n at.0.known.side c.args.place.now.partition at.1 c.args.place.now refl)) ∙ ap (λ x. length (run_at cmp x c.args.place.now)) (live-is cmp c.args.self.now.live m n at.0.is_live)
 
 pub returns-in-Side : goal.returns-in-Side
 returns-in-Side g c =
@@ -22,4 +22,4 @@ returns-in-Side g c =
     let m = g.W.Store.meaning c.args.self.now.windows in
     let n = g.S.Store.meaning c.args.self.now.side in
     let at = c.in-Side.ensures in
-    c.run-len-in-Side.ensures ∙ ap (λ xs. length xs) (sym (run-side cmp o m n at.0.known.side c.args.place.now.partition (at.0.apiece.apart c.args.place.now.partition at.1) c.args.place.now refl)) ∙ ap (λ x. length (run_at cmp x c.args.place.now)) (live-is cmp c.args.self.now.live m n at.0.is_live)
+    c.run_len-in-Side.ensures ∙ ap (λ xs. length xs) (sym (run-side cmp o m n at.0.known.side c.args.place.now.partition (at.0.apiece.apart c.args.place.now.partition at.1) c.args.place.now refl)) ∙ ap (λ x. length (run_at cmp x c.args.place.now)) (live-is cmp c.args.self.now.live m n at.0.is_live)

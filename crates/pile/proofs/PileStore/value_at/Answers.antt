@@ -14,7 +14,7 @@ returns-in-Window g c =
     let m = g.W.Store.meaning c.args.self.now.windows in
     let n = g.S.Store.meaning c.args.self.now.side in
     let at = c.in-Window.ensures in
-    c.value-at.ensures ∙ ap (λ xs. slice_get xs c.args.offset) (sym (run-windows cmp o m n at.0.known.side c.args.place.now.partition at.1 c.args.place.now refl)) ∙ ap (λ x. slice_get (run_at cmp x c.args.place.now) c.args.offset) (live-is cmp c.args.self.now.live m n at.0.is_live)
+    c.value_at.ensures ∙ ap (λ xs. slice_get xs c.args.offset) (sym (run-windows cmp o m n at.0.known.side c.args.place.now.partition at.1 c.args.place.now refl)) ∙ ap (λ x. slice_get (run_at cmp x c.args.place.now) c.args.offset) (live-is cmp c.args.self.now.live m n at.0.is_live)
 
 pub returns-in-Side : goal.returns-in-Side
 returns-in-Side g c =
@@ -23,4 +23,4 @@ returns-in-Side g c =
     let m = g.W.Store.meaning c.args.self.now.windows in
     let n = g.S.Store.meaning c.args.self.now.side in
     let at = c.in-Side.ensures in
-    c.value-at-in-Side.ensures ∙ ap (λ xs. slice_get xs c.args.offset) (sym (run-side cmp o m n at.0.known.side c.args.place.now.partition (at.0.apiece.apart c.args.place.now.partition at.1) c.args.place.now refl)) ∙ ap (λ x. slice_get (run_at cmp x c.args.place.now) c.args.offset) (live-is cmp c.args.self.now.live m n at.0.is_live)
+    c.value_at-in-Side.ensures ∙ ap (λ xs. slice_get xs c.args.offset) (sym (run-side cmp o m n at.0.known.side c.args.place.now.partition (at.0.apiece.apart c.args.place.now.partition at.1) c.args.place.now refl)) ∙ ap (λ x. slice_get (run_at cmp x c.args.place.now) c.args.offset) (live-is cmp c.args.self.now.live m n at.0.is_live)

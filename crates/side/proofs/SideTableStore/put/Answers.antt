@@ -7,5 +7,5 @@ returns g c =
     let r = c.range-start in
     let h =
     put-done g.met.K.Key.lawful c.args.self.now c.requires c.args.place.now c.args.offset r.result.0 r.result.1 c.args.value
-    (omega arith) (omega arith) r.ensures (omega arith) c.insert-at.new.cells c.insert-at-2.new.cells c.insert-at.ensures c.insert-at-2.ensures in
+    (omega arith) (omega arith) r.ensures (omega arith) c.insert_at.new.cells c.insert_at-2.new.cells c.insert_at.ensures c.insert_at-2.ensures in
     record { ok = h.0; does = h.1 }

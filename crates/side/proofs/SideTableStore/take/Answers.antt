@@ -10,5 +10,5 @@ returns g c =
     let h =
     take_done g.met.K.Key.lawful t c.requires c.args.place.now r.result.0 r.result.1 r.ensures c.args.offset (omega arith)
     (get_or t.values.now at c.index-self-at.result) (ap (get_or t.values.now at) c.index-self-at.is)
-    c.remove-at.new.cells c.remove-at-2.new.cells c.remove-at.ensures c.remove-at-2.ensures in
+    c.remove_at.new.cells c.remove_at-2.new.cells c.remove_at.ensures c.remove_at-2.ensures in
     record { ok = h.0; does = h.1 }

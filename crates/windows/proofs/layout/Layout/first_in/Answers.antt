@@ -7,6 +7,6 @@ use Rattle.windows.proofs.layout.Layout.first_in.Goals as goal
 
 pub returns : goal.returns
 returns g c =
-    c.place-at.ensures
+    c.place_at.ensures
     ∙ ap (λ xs. option_map (spot c.args.partition) (slice_get xs 0)) c.used.ensures
     ∙ ap (option_map (spot c.args.partition)) (first-nth _)

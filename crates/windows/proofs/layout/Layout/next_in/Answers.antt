@@ -12,7 +12,7 @@ pub returns : goal.returns
 returns g c =
     let p = c.args.place.now in
     let lt = before g.row.K-Key.ordered in
-    c.place-at.ensures
-    ∙ ap (λ i. option_map (spot p.partition) (slice_get c.used-used.result.now i)) c.upper-bound.ensures
+    c.place_at.ensures
+    ∙ ap (λ i. option_map (spot p.partition) (slice_get c.used-used.result.now i)) c.upper_bound.ensures
     ∙ ap (λ xs. option_map (spot p.partition) (slice_get xs (upto lt xs p.key))) c.used-used.ensures
     ∙ ap (option_map (spot p.partition)) (next-nth (total g.met.K.Key.lawful) _ (c.requires.sorted p.partition) p.key)

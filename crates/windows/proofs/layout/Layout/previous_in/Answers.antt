@@ -11,7 +11,7 @@ pub returns : goal.returns
 returns g c =
     let p = c.args.place.now in
     let lt = before g.row.K-Key.ordered in
-    c.place-before.ensures
-    ∙ ap (λ i. option_map (spot p.partition) (ahead c.used-used.result.now i)) c.lower-bound.ensures
+    c.place_before.ensures
+    ∙ ap (λ i. option_map (spot p.partition) (ahead c.used-used.result.now i)) c.lower_bound.ensures
     ∙ ap (λ xs. option_map (spot p.partition) (ahead xs (below lt xs p.key))) c.used-used.ensures
     ∙ ap (option_map (spot p.partition)) (prev_nth (total g.met.K.Key.lawful) _ (c.requires.sorted p.partition) p.key)

@@ -1,5 +1,5 @@
 use Rattle.std.proofs.Common.{arith}
 use Rattle.windows.proofs.layout.Layout.space.Goals as goal
 
-pub overflow-sub-result : goal.overflow-sub-result
-overflow-sub-result c = c.requires.full c.args.partition (omega arith)
+pub overflow_sub-result : goal.overflow_sub-result
+overflow_sub-result c = c.requires.full c.args.partition (omega arith)

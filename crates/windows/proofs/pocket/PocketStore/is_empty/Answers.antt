@@ -3,4 +3,4 @@ use Rattle.windows.proofs.Steps.{none-f}
 use Rattle.windows.proofs.pocket.PocketStore.is_empty.Goals as goal
 
 pub returns : goal.returns
-returns c = let t = c.args.self.now in none-f numbers_lawful t.keys t.values t.lengths 4 256 c.requires c.is-empty.result c.is-empty.ensures
+returns c = let t = c.args.self.now in none-f numbers_lawful t.keys t.values t.lengths 4 256 c.requires c.is_empty.result c.is_empty.ensures

@@ -4,21 +4,21 @@ use Rattle.keys.specs.Laws.{numbers_lawful}
 use Rattle.windows.proofs.Steps.{put-done, put_refused}
 use Rattle.windows.proofs.pocket.PocketStore.put.Goals as goal
 
-pub returns-in-err-len : goal.returns-in-err-len
-returns-in-err-len c =
+pub returns-in_err-len : goal.returns-in_err-len
+returns-in_err-len c =
     let t = c.args.self.now in
     let z = err_from_is_err_and c.from-residual.result c.from-residual.ensures.1 in
     record {
       ok = c.requires;
-      does = put_refused numbers_lawful t.keys t.values t.lengths 4 256 c.requires c.args.place.now c.args.offset c.in-err-len.field-0.0 c.args.value
-          c.from-residual.result (z.1 ∙ ap Err z.2) c.in-err-len.ensures;
+      does = put_refused numbers_lawful t.keys t.values t.lengths 4 256 c.requires c.args.place.now c.args.offset c.in_err-len.field-0.0 c.args.value
+          c.from-residual.result (z.1 ∙ ap Err z.2) c.in_err-len.ensures;
     }
 
 pub returns : goal.returns
 returns c =
     let t = c.args.self.now in
-    let h = c.in-ok-len.ensures in
+    let h = c.in_ok-len.ensures in
     let d =
     put-done numbers_lawful t.keys t.values t.lengths 4 256 c.requires c.args.place.now c.args.offset
-    c.in-ok-len.len c.in-ok-len.at h.0 c.args.value h.1 c.insert.new.cells c.insert-2.new.cells c.insert.ensures c.insert-2.ensures in
+    c.in_ok-len.len c.in_ok-len.at h.0 c.args.value h.1 c.insert.new.cells c.insert-2.new.cells c.insert.ensures c.insert-2.ensures in
     record { ok = d.0; does = d.1 }

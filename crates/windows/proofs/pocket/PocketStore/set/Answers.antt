@@ -4,21 +4,21 @@ use Rattle.keys.specs.Laws.{numbers_lawful}
 use Rattle.windows.proofs.Steps.{set-done, set-refused}
 use Rattle.windows.proofs.pocket.PocketStore.set.Goals as goal
 
-pub returns-in-err-at : goal.returns-in-err-at
-returns-in-err-at c =
+pub returns-in_err-at : goal.returns-in_err-at
+returns-in_err-at c =
     let t = c.args.self.now in
     let z = err_from_is_err_and c.from-residual.result c.from-residual.ensures.1 in
     record {
       ok = c.requires;
-      does = set-refused numbers_lawful t.keys t.values t.lengths 4 256 c.requires c.args.place.now c.args.offset c.in-err-at.field-0.0 c.args.value
-          c.from-residual.result (z.1 ∙ ap Err z.2) c.in-err-at.ensures;
+      does = set-refused numbers_lawful t.keys t.values t.lengths 4 256 c.requires c.args.place.now c.args.offset c.in_err-at.field-0.0 c.args.value
+          c.from-residual.result (z.1 ∙ ap Err z.2) c.in_err-at.ensures;
     }
 
 pub returns : goal.returns
 returns c =
     let t = c.args.self.now in
-    let h = c.in-ok-at.ensures in
+    let h = c.in_ok-at.ensures in
     let d =
     set-done numbers_lawful t.keys t.values t.lengths 4 256 c.requires c.args.place.now c.args.offset
-    _ c.in-ok-at.at h.0 c.args.value h.1 h.2 c.replace.new.cells c.replace.ensures in
+    _ c.in_ok-at.at h.0 c.args.value h.1 h.2 c.replace.new.cells c.replace.ensures in
     record { ok = d.0; does = d.1 }

@@ -5,28 +5,28 @@ use Rattle.windows.proofs.Used.{length-used}
 use Rattle.windows.proofs.Steps.{take_done, take-refused}
 use Rattle.windows.proofs.pocket.PocketStore.take.Goals as goal
 
-pub returns-in-err-len : goal.returns-in-err-len
-returns-in-err-len c =
+pub returns-in_err-len : goal.returns-in_err-len
+returns-in_err-len c =
     let t = c.args.self.now in
     let z = err_from_is_err_and c.from-residual.result c.from-residual.ensures.1 in
     record {
       ok = c.requires;
-      does = take-refused numbers_lawful t.keys t.values t.lengths 4 256 c.requires c.args.place.now c.args.offset c.in-err-len.field-0.0
-          c.from-residual.result (z.1 ∙ ap Err z.2) c.in-err-len.ensures;
+      does = take-refused numbers_lawful t.keys t.values t.lengths 4 256 c.requires c.args.place.now c.args.offset c.in_err-len.field-0.0
+          c.from-residual.result (z.1 ∙ ap Err z.2) c.in_err-len.ensures;
     }
 
 pub cell-value-requires : goal.cell-value-requires
 cell-value-requires c =
     let t = c.args.self.now in
-    let h = c.in-ok-len.ensures in
+    let h = c.in_ok-len.ensures in
     let e = length-used t.values t.lengths 4 256 c.requires.keys.lengths c.requires.values_fit c.args.place.now.partition h.0.inside in
     record { ok = c.requires; within = omega (arith, h.0.counts, h.2) }
 
 pub returns : goal.returns
 returns c =
     let t = c.args.self.now in
-    let h = c.in-ok-len.ensures in
+    let h = c.in_ok-len.ensures in
     let d =
     take_done numbers_lawful t.keys t.values t.lengths 4 256 c.requires c.args.place.now c.args.offset
-    c.in-ok-len.len c.in-ok-len.at h.0 c.cell-value.result h.1 h.2 c.cell-value.ensures c.remove.new.cells c.remove-2.new.cells c.remove.ensures c.remove-2.ensures in
+    c.in_ok-len.len c.in_ok-len.at h.0 c.cell-value.result h.1 h.2 c.cell-value.ensures c.remove.new.cells c.remove-2.new.cells c.remove.ensures c.remove-2.ensures in
     record { ok = d.0; does = d.1 }

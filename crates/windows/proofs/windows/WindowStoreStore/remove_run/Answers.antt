@@ -36,8 +36,8 @@ remove-requires-2 g c =
       within = h.0;
     }
 
-pub overflow-sub-self-2 : goal.overflow-sub-self-2
-overflow-sub-self-2 g c =
+pub overflow_sub-self-2 : goal.overflow_sub-self-2
+overflow_sub-self-2 g c =
     let t = c.args.self.now in
     let r = c.range-start in
     let some : r.result.start < r.result.end = omega (arith, r.ensures.ordered) in

@@ -3,21 +3,21 @@ use Rattle.std.proofs.lemmas.Result.{err_from_is_err_and}
 use Rattle.windows.proofs.Steps.{set-done, set-refused}
 use Rattle.windows.proofs.windows.WindowStoreStore.set.Goals as goal
 
-pub returns-in-err-at : goal.returns-in-err-at
-returns-in-err-at g c =
+pub returns-in_err-at : goal.returns-in_err-at
+returns-in_err-at g c =
     let t = c.args.self.now in
     let z = err_from_is_err_and c.from-residual.result c.from-residual.ensures.1 in
     record {
       ok = c.requires;
-      does = set-refused g.met.K.Key.lawful t.keys.now t.values.now t.lengths.now t.layout.window t.layout.partitions c.requires c.args.place.now c.args.offset c.in-err-at.field-0.0 c.args.value
-          c.from-residual.result (z.1 ∙ ap Err z.2) c.in-err-at.ensures;
+      does = set-refused g.met.K.Key.lawful t.keys.now t.values.now t.lengths.now t.layout.window t.layout.partitions c.requires c.args.place.now c.args.offset c.in_err-at.field-0.0 c.args.value
+          c.from-residual.result (z.1 ∙ ap Err z.2) c.in_err-at.ensures;
     }
 
 pub returns : goal.returns
 returns g c =
     let t = c.args.self.now in
-    let h = c.in-ok-at.ensures in
+    let h = c.in_ok-at.ensures in
     let d =
     set-done g.met.K.Key.lawful t.keys.now t.values.now t.lengths.now t.layout.window t.layout.partitions c.requires c.args.place.now c.args.offset
-    _ c.in-ok-at.at h.0 c.args.value h.1 h.2 c.replace.new.cells c.replace.ensures in
+    _ c.in_ok-at.at h.0 c.args.value h.1 h.2 c.replace.new.cells c.replace.ensures in
     record { ok = d.0; does = d.1 }
