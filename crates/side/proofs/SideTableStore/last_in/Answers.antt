@@ -9,7 +9,7 @@ pub returns-in_err-last : goal.returns-in_err-last
 returns-in_err-last g c =
     let t = c.args.self.now in
     let few = c.in_err-last.ensures in
-    last_none g.met.K.Key.lawful t c.requires (t.len - 0) (omega arith) c.from-residual.result c.from-residual.ensures c.args.partition (omega arith)
+    last_none g.met.K.Key.lawful t c.requires (t.len - 0) (omega arith) c.from_residual.result c.from_residual.ensures c.args.partition (omega arith)
 
 pub returns : goal.returns
 returns g c =

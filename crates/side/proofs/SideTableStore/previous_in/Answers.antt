@@ -9,7 +9,7 @@ pub returns-in_err-previous : goal.returns-in_err-previous
 returns-in_err-previous g c =
     let t = c.args.self.now in
     let few = c.in_err-previous.ensures in
-    previous-none g.met.K.Key.lawful t c.requires (t.len - 0) (omega arith) c.from-residual.result c.from-residual.ensures c.args.place.now (omega arith)
+    previous-none g.met.K.Key.lawful t c.requires (t.len - 0) (omega arith) c.from_residual.result c.from_residual.ensures c.args.place.now (omega arith)
 
 pub returns : goal.returns
 returns g c =

@@ -7,11 +7,11 @@ use Rattle.windows.proofs.pocket.PocketStore.set.Goals as goal
 pub returns-in_err-at : goal.returns-in_err-at
 returns-in_err-at c =
     let t = c.args.self.now in
-    let z = err_from_is_err_and c.from-residual.result c.from-residual.ensures.1 in
+    let z = err_from_is_err_and c.from_residual.result c.from_residual.ensures.1 in
     record {
       ok = c.requires;
       does = set-refused numbers_lawful t.keys t.values t.lengths 4 256 c.requires c.args.place.now c.args.offset c.in_err-at.field-0.0 c.args.value
-          c.from-residual.result (z.1 ∙ ap Err z.2) c.in_err-at.ensures;
+          c.from_residual.result (z.1 ∙ ap Err z.2) c.in_err-at.ensures;
     }
 
 pub returns : goal.returns

@@ -6,11 +6,11 @@ use Rattle.windows.proofs.windows.WindowStoreStore.put.Goals as goal
 pub returns-in_err-len : goal.returns-in_err-len
 returns-in_err-len g c =
     let t = c.args.self.now in
-    let z = err_from_is_err_and c.from-residual.result c.from-residual.ensures.1 in
+    let z = err_from_is_err_and c.from_residual.result c.from_residual.ensures.1 in
     record {
       ok = c.requires;
       does = put_refused g.met.K.Key.lawful t.keys.now t.values.now t.lengths.now t.layout.window t.layout.partitions c.requires c.args.place.now c.args.offset c.in_err-len.field-0.0 c.args.value
-          c.from-residual.result (z.1 ∙ ap Err z.2) c.in_err-len.ensures;
+          c.from_residual.result (z.1 ∙ ap Err z.2) c.in_err-len.ensures;
     }
 
 pub returns : goal.returns
