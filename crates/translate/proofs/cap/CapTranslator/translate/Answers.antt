@@ -6,5 +6,5 @@ use Rattle.translate.proofs.cap.CapTranslator.translate.Goals as goal
 
 pub returns : goal.returns
 returns c =
-    let e = c.padded-to.ensures in
-    c.from-be-bytes.ensures ∙ four c.padded-to.result (ap length e ∙ length-padded 4 c.args.sub-key.now) ∙ ap number e
+    let e = c.padded_to.ensures in
+    c.from_be_bytes.ensures ∙ four c.padded_to.result (ap length e ∙ length-padded 4 c.args.sub_key.now) ∙ ap number e

@@ -4,7 +4,7 @@ use Rattle.translate.specs.Meanings.{stir, fold_of}
 use Rattle.translate.proofs.fold.FoldTranslator.translate.Goals as goal
 
 pub loop-b-preserved : goal.loop-b-preserved
-loop-b-preserved c = let e = fold_more stir 2166136261 c.args.sub-key.now c.loop-b.b-index 0 c.loop-b-test.true in cc
+loop-b-preserved c = let e = fold_more stir 2166136261 c.args.sub_key.now c.loop-b.b-index 0 c.loop-b-test.true in cc
 
 pub returns : goal.returns
 returns c = c.loop-b.invariant ∙ ap fold_of (take_all _ _ c.loop-b-test.false)
