@@ -8,8 +8,8 @@ use Rattle.std.specs.Cmp.{ranks}
 use Rattle.std.specs.Cmp.Lexicographic.{nat_list_cmp_total}
 use Rattle.std.proofs.ByRecursion.{All-drop}
 use Rattle.keys.specs.Orders.{bytes_order, label_order, place_order}
-use Rattle.translate.specs.Bytes.{Bytes, NotAfter, Keeps}
-use Rattle.translate.specs.Meanings.{padded, number, cap_of, label_of}
+use Rattle.translate.specs.Bytes.{NotAfter, Keeps}
+use Rattle.translate.specs.Meanings.{padded, cap_of, label_of}
 use Rattle.translate.specs.Split.{place_of}
 use Rattle.translate.specs.Numbers.{padded-order}
 
