@@ -4,12 +4,12 @@ use Rattle.std.specs.declared.cmp.Ordering.TheVariants.{Less, Equal, Greater}
 use Rattle.std.specs.declared.cmp.Ordering.{Ordering}
 use Rattle.std.proofs.Common.{sym, ap, subst, ◌∙◌, true≢false, arith}
 use Rattle.std.specs.Ordering.{is_eq, is_lt, ordering_then, ordering_reverse, MatchOrdering, nat_cmp}
-use Rattle.std.specs.Cmp.{ranks, nat_cmp_total}
-use Rattle.std.specs.Cmp.Lexicographic.{lexical}
+use Rattle.std.specs.Cmp.{ranks}
+use Rattle.std.specs.Cmp.Lexicographic.{nat_list_cmp_total}
 use Rattle.std.proofs.ByRecursion.{All-drop}
 use Rattle.keys.specs.Orders.{bytes_order, label_order, place_order}
-use Rattle.translate.specs.Bytes.{Bytes, NotAfter, Keeps}
-use Rattle.translate.specs.Meanings.{padded, number, cap_of, label_of}
+use Rattle.translate.specs.Bytes.{NotAfter, Keeps}
+use Rattle.translate.specs.Meanings.{padded, cap_of, label_of}
 use Rattle.translate.specs.Split.{place_of}
 use Rattle.translate.specs.Numbers.{padded-order}
 
@@ -48,7 +48,7 @@ parts-keep (suc n) (x ∷ xs) (y ∷ ys) u =
 
 padded-keep : (n : ℕ) (a b : List ℕ) → NotAfter a b → bytes_order (padded n b) (padded n a) ≢ Less
 padded-keep n a b u e =
-    parts-keep n a b u (ap (λ r. ordering_then r (bytes_order (drop n a) (drop n b))) ((lexical nat_cmp_total).flip (padded n a) (padded n b) ∙ ap ordering_reverse e))
+    parts-keep n a b u (ap (λ r. ordering_then r (bytes_order (drop n a) (drop n b))) (nat_list_cmp_total.antisymm (padded n a) (padded n b) ∙ ap ordering_reverse e))
 
 pub label-keeps : Keeps label_order label_of
 label-keeps a b p q u = padded-keep 8 a b u
@@ -66,4 +66,4 @@ pub place-keeps : {K : Type 0} (cmp : K → K → Ordering) (n : ℕ) (m : List 
 place-keeps cmp n m k a b p q u e =
     lasts (bytes_order (padded n a) (padded n b)) (bytes_order (drop n a) (drop n b)) (cmp (m (drop n b)) (m (drop n a))) (parts-keep n a b u)
     (k (drop n a) (drop n b) (All-drop (λ x. x < 256) n a p) (All-drop (λ x. x < 256) n b q))
-    (ap (λ r. ordering_then r (cmp (m (drop n b)) (m (drop n a)))) (sym (padded-order n b a q p ∙ (lexical nat_cmp_total).flip (padded n b) (padded n a))) ∙ e)
+    (ap (λ r. ordering_then r (cmp (m (drop n b)) (m (drop n a)))) (sym (padded-order n b a q p ∙ nat_list_cmp_total.antisymm (padded n b) (padded n a))) ∙ e)

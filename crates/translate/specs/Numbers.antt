@@ -5,7 +5,7 @@ use Rattle.std.specs.declared.cmp.Ordering.{Ordering}
 use Rattle.std.proofs.Common.{sym, ap, ◌∙◌, mul_assoc, mul-one, one-mul, arith}
 use Rattle.std.proofs.Math.Nat.{pow-succ'}
 use Rattle.std.specs.Ordering.{ordering_then, MatchOrdering, nat_cmp}
-use Rattle.std.specs.Cmp.{ranks, nat_cmp_total}
+use Rattle.std.specs.Cmp.{ranks, nat_cmp_is}
 use Rattle.keys.specs.Orders.{bytes_order}
 use Rattle.translate.specs.Bytes.{Bytes}
 use Rattle.translate.specs.Meanings.{padded, number}
@@ -67,7 +67,7 @@ order_from m n [] (y ∷ ys) e p q = absurd (omega arith)
 order_from m n (x ∷ xs) [] e p q = absurd (omega arith)
 order_from m n (x ∷ xs) (y ∷ ys) e p q =
     order_from (digit m x) (digit n y) xs ys (omega arith) p.1 q.1
-    ∙ ap (λ r. ordering_then r (bytes_order xs ys)) (sym (nat_cmp_total.says (digit m x) (digit n y) (ordering_then (nat_cmp m n) (nat_cmp x y)) (digit-ranked m n x y (nat_cmp m n) (nat_cmp x y) p.0 q.0 (ranks m n) (ranks x y))))
+    ∙ ap (λ r. ordering_then r (bytes_order xs ys)) (sym (nat_cmp_is (digit m x) (digit n y) (ordering_then (nat_cmp m n) (nat_cmp x y)) (digit-ranked m n x y (nat_cmp m n) (nat_cmp x y) p.0 q.0 (ranks m n) (ranks x y))))
     ∙ then-assoc (nat_cmp m n) (nat_cmp x y) (bytes_order xs ys)
 
 -- padded to one length, bytes compare as their numbers do

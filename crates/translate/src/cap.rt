@@ -5,7 +5,7 @@ ghost use Rattle.translate.specs.Keeping.{cap_keeps};
 
 use crate::padded::padded_to;
 use crate::translator::{OrderedTranslator, Translator};
-use keys::{Key, Key as _};
+use keys::Key;
 use std::cmp::Ordering;
 
 // Four bytes, padded on the right with zeros, as a big-endian number.

@@ -6,7 +6,7 @@ ghost use Rattle.translate.specs.Meanings.{fold_of};
 ghost use Rattle.std.specs.Ordering.{nat_cmp};
 
 use crate::translator::Translator;
-use keys::{Key, Key as _};
+use keys::Key;
 use std::cmp::Ordering;
 
 // The 32-bit FNV-1a hash.

@@ -5,7 +5,7 @@ ghost use Rattle.translate.specs.Keeping.{label-keeps};
 
 use crate::padded::padded_to;
 use crate::translator::{OrderedTranslator, Translator};
-use keys::{Key, Key as _, Label};
+use keys::{Key, Label};
 use std::cmp::Ordering;
 
 // Eight bytes, padded on the right with zeros.

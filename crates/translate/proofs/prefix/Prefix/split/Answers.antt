@@ -19,9 +19,9 @@ returns c =
     let p = c.args.self.now.bytes in
     let m = c.min-n.result in
     let bs = c.args.key.now in
-    let f = filled p m bs c.copy-from-slice.new.self (omega arith) c.min-n.ensures c.copy-from-slice.ensures.after in
+    let f = filled p m bs c.copy_from_slice.new.self (omega arith) c.min-n.ensures c.copy_from_slice.ensures.after in
     let n = four _ (ap length f ∙ simp (length-append, length-take, length-padded) (omega arith)) ∙ ap number f ∙ in_front (4 - p) 4 (padded p bs) in
-    let e : c.from.result ≡ number (padded p bs) = c.from.ensures ∙ c.from-be-bytes.ensures ∙ n in
+    let e : c.from.result ≡ number (padded p bs) = c.from.ensures ∙ c.from_be_bytes.ensures ∙ n in
     let r = rest p m bs c.min-n.ensures in
-    let b = padded-below p bs (bytes-known bs c.type-inv.key) in
+    let b = padded-below p bs (bytes-known bs c.type_inv.key) in
     record { parts = λ i. (e i, r i); below = omega arith }
