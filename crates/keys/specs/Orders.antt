@@ -1,4 +1,4 @@
--- The orders of bytes, labels and places; numbers have `rank`. Assumes nothing.
+-- The orders of bytes, labels and places; numbers have `nat_cmp`. Assumes nothing.
 use Rattle.std.specs.Prelude.{ℕ, List}
 use Rattle.std.specs.declared.cmp.Ordering.{Ordering}
 use Rattle.std.specs.Ordering.{ordering_then, nat_cmp}
