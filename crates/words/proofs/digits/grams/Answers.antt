@@ -8,4 +8,4 @@ use Rattle.words.proofs.digits.grams.Goals as goal
 pub returns-in-45 : goal.returns-in-45
 returns-in-45 c =
     let first : get_or c.args.word.now 0 0 ≡ 45 = omega arith in
-    c.grams-below.ensures ∙ ap (λ ds. ok_by (λ n. neg_ℤ (pos n)) (number_of 2147483648 ds)) (take_rest c.args.word.now 1) ∙ sym (cond-true (eqb (get_or c.args.word.now 0 0) 45) _ _ (eq-eqb _ _ first))
+    c.grams_below.ensures ∙ ap (λ ds. ok_by (λ n. neg_ℤ (pos n)) (number_of 2147483648 ds)) (take_rest c.args.word.now 1) ∙ sym (cond-true (eqb (get_or c.args.word.now 0 0) 45) _ _ (eq-eqb _ _ first))

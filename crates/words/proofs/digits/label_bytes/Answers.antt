@@ -12,17 +12,17 @@ returns-then-word-ne16 c = grind (arith, nat_tests)
 pub loop-i-init : goal.loop-i-init
 loop-i-init c = (onto-nil _, refl)
 
-pub returns-in-err-label : goal.returns-in-err-label
-returns-in-err-label c =
+pub returns-in_err-label : goal.returns-in_err-label
+returns-in_err-label c =
     let near : 2 * c.loop-i.i + 1 < length c.args.word.now = omega arith in
-    let e = pairs-stop lower_digit _ _ _ near (sym c.lower-pair.ensures ∙ c.in-err-label.was) c.loop-i.invariant.0 in
+    let e = pairs-stop lower_digit _ _ _ near (sym c.lower_pair.ensures ∙ c.in_err-label.was) c.loop-i.invariant.0 in
     grind (arith, nat_tests)
 
 pub loop-i-preserved : goal.loop-i-preserved
 loop-i-preserved c =
     let near : 2 * c.loop-i.i + 1 < length c.args.word.now = omega arith in
     let room : c.loop-i.i < length c.loop-i.label = omega arith in (
-      ap (λ xs. onto xs (pairs lower_digit (drop (2 * (c.loop-i.i + 1)) c.args.word.now))) (take_more_set _ _ _ room) ∙ pairs-more lower_digit _ _ _ _ near (sym c.lower-pair.ensures ∙ c.in-ok-label.was) c.loop-i.invariant.0,
+      ap (λ xs. onto xs (pairs lower_digit (drop (2 * (c.loop-i.i + 1)) c.args.word.now))) (take_more_set _ _ _ room) ∙ pairs-more lower_digit _ _ _ _ near (sym c.lower_pair.ensures ∙ c.in_ok-label.was) c.loop-i.invariant.0,
       length-set _ _ _ ∙ c.loop-i.invariant.1,
     )
 

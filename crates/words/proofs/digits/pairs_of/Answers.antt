@@ -5,16 +5,16 @@ use Rattle.words.specs.Digits.{digit}
 use Rattle.words.proofs.Laws.{pairs-pushed, pairs-stop, pairs_end}
 use Rattle.words.proofs.digits.pairs_of.Goals as goal
 
-pub returns-in-default : goal.returns-in-default
-returns-in-default c =
+pub returns-in_default : goal.returns-in_default
+returns-in_default c =
     let near : 2 * c.loop-i.i + 1 < length c.args.word.now = omega arith in
-    let e = pairs-stop digit _ _ _ near (sym c.pair.ensures ∙ c.in-default.is) c.loop-i.invariant in
+    let e = pairs-stop digit _ _ _ near (sym c.pair.ensures ∙ c.in_default.is) c.loop-i.invariant in
     inr (grind (arith, nat_tests))
 
 pub loop-i-preserved : goal.loop-i-preserved
 loop-i-preserved c =
     let near : 2 * c.loop-i.i + 1 < length c.args.word.now = omega arith in
-    pairs-pushed digit _ _ _ _ (vec_items c.push.new.self) (is_ok c.push.result) c.push.ensures.items c.if-is-err.ensures.negation near (sym c.pair.ensures ∙ c.in-Some.is) c.loop-i.invariant
+    pairs-pushed digit _ _ _ _ (vec_items c.push.new.self) (is_ok c.push.result) c.push.ensures.items c.if-is_err.ensures.negation near (sym c.pair.ensures ∙ c.in-Some.is) c.loop-i.invariant
 
 pub returns : goal.returns
 returns c =
