@@ -1,4 +1,3 @@
-use Rattle.std.proofs.Common.{rules}
 use Rattle.translate.specs.Keeping.{place-keeps}
 use Rattle.book.specs.State.{bytes}
 use Rattle.book.proofs.Near.{first-all}
