@@ -44,7 +44,8 @@ impl Report {
     // Answers a wrong line.
     pub fn wrong(&mut self, number: u64, why: Reason) -> Result<(), fmt::Error> {
         self.wrong = true;
-        writeln!(self.text, "error line {number}: {why}")
+        writeln!(self.text, "error line {number}: {why}")?;
+        Ok(())
     }
 
     // Writes the answer to line `number`, whose run is in the slots.
@@ -58,7 +59,8 @@ impl Report {
             Ok(answer) => self.answer(&answer, slots),
             Err(Fault::Refused(why)) => {
                 let code = why.code();
-                writeln!(self.text, "refused {code}")
+                writeln!(self.text, "refused {code}")?;
+                Ok(())
             }
             Err(Fault::Wrong(why)) => self.wrong(number, why),
         }

@@ -27,7 +27,8 @@ impl SubKey for u32 {
 
     fn write_to(&self, text: &mut String) -> Result<(), fmt::Error> {
         let n = *self;
-        write!(text, "{n}")
+        write!(text, "{n}")?;
+        Ok(())
     }
 }
 
