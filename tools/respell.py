@@ -32,7 +32,7 @@ gap-values=gap_values gap-wrote=gap_wrote get-many=get_many get-mut=get_mut get-
 head-same=head_same here-is=here_is here-values=here_values hit-slots=hit_slots hits-of=hits_of hits-to=hits_to in-64-bits=in_64_bits in-front=in_front
 in-keys=in_keys in-part=in_part in-room=in_room in-room-too=in_room_too in-same=in_same in-values=in_values insert-and-retain=insert_and_retain
 inserted-end=inserted_end is-less=is_less is-refused=is_refused items-counted=items_counted key-at=key_at keyed-prop=keyed_prop
-keys-counted=keys_counted keys-fit=keys_fit ks-=ks_less label-order=label_order labels-lawful=labels_lawful last-in=last_in last-in-is=last_in-is
+keys-counted=keys_counted keys-fit=keys_fit ks-=ks_less label-order=label_order label-keeps=label_keeps labels-lawful=labels_lawful place-keeps=place_keeps places-lawful=places_lawful last-in=last_in last-in-is=last_in-is
 last-in-none=last_in-none last-that=last_that lasts-did=lasts_did lasts-edited=lasts_edited lasts-same=lasts_same later-part=later_part lead-at=lead_at
 lead-none=lead_none lent-read=lent_read lift-void=lift_void listed-after=listed_after listed-before=listed_before listed-one=listed_one
 listed-parts=listed_parts listed-reverse=listed_reverse listed-run=listed_run live-meaning=live_meaning live-or-void=live_or_void local-edit=local_edit

@@ -3,7 +3,7 @@ use Rattle.std.proofs.Common.{◌≡◌, ℕ, ◌+◌, ◌-◌, ◌^◌, ◌<◌
 use Rattle.keys.specs.Order.{Lawful, Total, before}
 use Rattle.keys.specs.Orders.{place_order}
 use Rattle.keys.specs.declared.place.Place.{Place}
-use Rattle.keys.specs.Laws.{places-lawful}
+use Rattle.keys.specs.Laws.{places_lawful}
 use Rattle.keys.proofs.Tests.{total}
 use Rattle.contents.specs.Entries.{Entry, run, none, keys, items}
 use Rattle.contents.proofs.Laws.{keys-few, keys-put, items-put}
@@ -38,7 +38,7 @@ module _ {S T K V : Type 0} (meaning : S → Meaning K V) (ok : S → Type 0) {c
     does = subst (λ x. PutDone cmp (meaning b.store) (meaning s) x (length (run lt es x)) v) at (subst (λ k. PutDone cmp (meaning b.store) (meaning s) p k v) end done)
 
     o : Total lt
-    o = total (places-lawful cmp l)
+    o = total (places_lawful cmp l)
 
     more_keys : keys lt (meaning s).contents ≡ b.keys + cond (none (run lt es p)) 1 0
     more_keys =

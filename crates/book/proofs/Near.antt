@@ -5,7 +5,7 @@ use Rattle.std.proofs.lemmas.Bool.{cases_order, cases_lt, both_ways, lt-ltb, le-
 use Rattle.keys.specs.Order.{Lawful, Total, before}
 use Rattle.keys.specs.Orders.{place_order}
 use Rattle.keys.specs.declared.place.Place.{Place}
-use Rattle.keys.specs.Laws.{places-lawful}
+use Rattle.keys.specs.Laws.{places_lawful}
 use Rattle.keys.proofs.Tests.{total}
 use Rattle.contents.specs.Entries.{Entry, places, run, first_that, last_that}
 use Rattle.contents.proofs.Near.{Least, Greatest, least, least-is, greatest, greatest-is}
@@ -41,7 +41,7 @@ module _ {K V : Type 0} {cmp : K → K → Ordering} (l : Lawful cmp) (m : Meani
   es = m.contents
 
   o : Total lt
-  o = total (places-lawful cmp l)
+  o = total (places_lawful cmp l)
 
   held-not : (p : Place K) → run lt es p ≡ [] → 0 < length (run lt es p) → ⊥
   held-not p e h = let n = ap length e in omega arith

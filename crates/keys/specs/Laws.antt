@@ -56,8 +56,8 @@ then-carries p q s a b c Equal Equal f e g h j = ap (λ k. ordering_then k c) (n
 then-carries p q s a b c Equal Greater f e g h j = absurd (true≢false (ap is_gt j))
 then-carries p q s a b c Greater m f e g h j = absurd (true≢false (ap is_gt h))
 
-pub places-lawful : {K : Type 0} (cmp : K → K → Ordering) → Lawful cmp → Lawful (place_order cmp)
-places-lawful cmp l = record {
+pub places_lawful : {K : Type 0} (cmp : K → K → Ordering) → Lawful cmp → Lawful (place_order cmp)
+places_lawful cmp l = record {
   turned = λ x y.
       (λ i. ordering_then (nat_cmp_total.antisymm x.partition y.partition i) (l.turned x.key y.key i))
       ∙ then-turned (nat_cmp y.partition x.partition) (cmp y.key x.key);

@@ -1,8 +1,8 @@
 // What a key is, and the number keys.
 ghost use Rattle.std.specs.Prelude.{◌≡◌};
 ghost use Rattle.std.specs.declared.cmp.Ordering.{Ordering};
-ghost use Rattle.keys.specs.Order.{Lawful, before};
 ghost use Rattle.std.specs.Ordering.{nat_cmp};
+ghost use Rattle.keys.specs.Order.{Lawful, before};
 ghost use Rattle.keys.specs.Laws.{numbers_lawful};
 
 use std::cmp::Ordering;

@@ -1,7 +1,7 @@
 // Places: where a run of values stands.
 ghost use Rattle.std.specs.Prelude.{◌≡◌};
 ghost use Rattle.keys.specs.Orders.{place_order};
-ghost use Rattle.keys.specs.Laws.{places-lawful};
+ghost use Rattle.keys.specs.Laws.{places_lawful};
 
 use crate::key::Key;
 use std::cmp::Ordering;
@@ -16,7 +16,7 @@ pub struct Place<K> {
 impl<K: Key> Key for Place<K> {
     ghost ordered = { place_order K.Key.ordered };
 
-    ghost lawful = { places-lawful K.Key.ordered K.Key.lawful };
+    ghost lawful = { places_lawful K.Key.ordered K.Key.lawful };
 
     fn compare(&self, other: &Place<K>) -> Ordering {
         match self.partition.cmp(&other.partition) {

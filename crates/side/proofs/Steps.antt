@@ -7,7 +7,7 @@ use Rattle.std.proofs.lemmas.Bool.{cond_below, cond_above, cases_lt, cases_Bool,
 use Rattle.keys.specs.Order.{Lawful, Total, before}
 use Rattle.keys.specs.Orders.{place_order}
 use Rattle.keys.specs.declared.place.Place.{Place}
-use Rattle.keys.specs.Laws.{places-lawful}
+use Rattle.keys.specs.Laws.{places_lawful}
 use Rattle.keys.proofs.Tests.{total}
 use Rattle.contents.specs.Sorted.{Sorted, count, below, upto}
 use Rattle.contents.specs.Entries.{Entry, entry, places, Rising, run, none, same, first_that, last_that}
@@ -50,7 +50,7 @@ module _ {K V : Type 0} {cmp : K → K → Ordering} (l : Lawful cmp) (t : SideT
   es = live ks vs n
 
   o : Total lt
-  o = total (places-lawful cmp l)
+  o = total (places_lawful cmp l)
 
   in_keys : n ≤ length ks
   in_keys = let a = b.few in let c = b.keys_fit in omega arith

@@ -50,8 +50,8 @@ padded-keep : (n : ℕ) (a b : List ℕ) → NotAfter a b → bytes_order (padde
 padded-keep n a b u e =
     parts-keep n a b u (ap (λ r. ordering_then r (bytes_order (drop n a) (drop n b))) (nat_list_cmp_total.antisymm (padded n a) (padded n b) ∙ ap ordering_reverse e))
 
-pub label-keeps : Keeps label_order label_of
-label-keeps a b p q u = padded-keep 8 a b u
+pub label_keeps : Keeps label_order label_of
+label_keeps a b p q u = padded-keep 8 a b u
 
 pub cap_keeps : Keeps nat_cmp cap_of
 cap_keeps a b p q u e = padded-keep 4 a b u (sym (padded-order 4 b a q p) ∙ e)
@@ -62,8 +62,8 @@ lasts Less s t u v e = true≢false (sym (ap is_lt e))
 lasts Equal s t u v e = v u e
 lasts Greater s t u v e = u refl
 
-pub place-keeps : {K : Type 0} (cmp : K → K → Ordering) (n : ℕ) (m : List ℕ → K) → Keeps cmp m → Keeps (place_order cmp) (place_of n m)
-place-keeps cmp n m k a b p q u e =
+pub place_keeps : {K : Type 0} (cmp : K → K → Ordering) (n : ℕ) (m : List ℕ → K) → Keeps cmp m → Keeps (place_order cmp) (place_of n m)
+place_keeps cmp n m k a b p q u e =
     lasts (bytes_order (padded n a) (padded n b)) (bytes_order (drop n a) (drop n b)) (cmp (m (drop n b)) (m (drop n a))) (parts-keep n a b u)
     (k (drop n a) (drop n b) (All-drop (λ x. x < 256) n a p) (All-drop (λ x. x < 256) n b q))
     (ap (λ r. ordering_then r (cmp (m (drop n b)) (m (drop n a)))) (sym (padded-order n b a q p ∙ nat_list_cmp_total.antisymm (padded n b) (padded n a))) ∙ e)

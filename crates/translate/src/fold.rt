@@ -1,9 +1,9 @@
 // The fold: a hash of all bytes, which keeps no order.
 ghost use Rattle.std.specs.Prelude.{◌≡◌};
 ghost use Rattle.std.specs.declared.cmp.Ordering.TheVariants.{Less};
+ghost use Rattle.std.specs.Ordering.{nat_cmp};
 ghost use Rattle.translate.specs.Bytes.{Keeps};
 ghost use Rattle.translate.specs.Meanings.{fold_of};
-ghost use Rattle.std.specs.Ordering.{nat_cmp};
 
 use crate::translator::Translator;
 use keys::Key;

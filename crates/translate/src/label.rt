@@ -1,7 +1,7 @@
 // The label: the first eight bytes as they are.
 ghost use Rattle.std.specs.Prelude.{◌≡◌};
 ghost use Rattle.translate.specs.Meanings.{label_of};
-ghost use Rattle.translate.specs.Keeping.{label-keeps};
+ghost use Rattle.translate.specs.Keeping.{label_keeps};
 
 use crate::padded::padded_to;
 use crate::translator::{OrderedTranslator, Translator};
@@ -27,7 +27,7 @@ impl Translator for Labels {
 
 // Padding reverses no two keys, so a label keeps order.
 impl OrderedTranslator for Labels {
-    ghost keeps = { λ t. label-keeps };
+    ghost keeps = { λ t. label_keeps };
 
     fn compare_translated(&self, a: &[u8], b: &[u8]) -> Ordering {
         self.translate(a).compare(&self.translate(b))

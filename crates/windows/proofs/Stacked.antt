@@ -8,7 +8,7 @@ use Rattle.std.proofs.lemmas.Bool.{cases_eq, cases_lt, eq-eqb, ne_eqb, le-ltb}
 use Rattle.keys.specs.Order.{Lawful, Total, before}
 use Rattle.keys.specs.Orders.{place_order}
 use Rattle.keys.specs.declared.place.Place.{Place}
-use Rattle.keys.specs.Laws.{places-lawful}
+use Rattle.keys.specs.Laws.{places_lawful}
 use Rattle.keys.proofs.Tests.{total}
 use Rattle.contents.specs.Entries.{Entry, places, Rising, same, run, none, amount, first_that, last_that}
 use Rattle.contents.specs.Changes.{Gains, Sets, Clears}
@@ -84,7 +84,7 @@ module _ {K V : Type 0} where
       omega (arith, amount-miss q r es fs ne)
 
 pub by_place : {K : Type 0} {cmp : K → K → Ordering} → Lawful cmp → Total (Lt cmp)
-by_place {K} {cmp} l = total (places-lawful cmp l)
+by_place {K} {cmp} l = total (places_lawful cmp l)
 
 module _ {K V : Type 0} {cmp : K → K → Ordering} (l : Lawful cmp) where
   run-within : (q : ℕ) (es : List (Entry K V)) (k : K) → run (Lt cmp) (within q es) (spot q k) ≡ run (lt cmp) es k

@@ -1,8 +1,8 @@
 // The pocket store: 256 windows of four cells in its own record.
 ghost use Rattle.std.specs.Prelude.{◌≡◌, ◌<◌, length, slice_index_or};
+ghost use Rattle.std.specs.Ordering.{nat_cmp};
 ghost use Rattle.windows.specs.Windows.{used, bare, Ranged, PutSlot, HeldSlot};
 ghost use Rattle.windows.specs.Stores.{pocket_meaning, PocketOk};
-ghost use Rattle.std.specs.Ordering.{nat_cmp};
 
 use crate::layout::Layout;
 use arrays::value_at;

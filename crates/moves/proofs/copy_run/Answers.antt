@@ -1,7 +1,7 @@
 use Rattle.std.proofs.Common.{take, sym, subst, arith, take_all}
 use Rattle.std.proofs.lemmas.List.{length-take-le}
 use Rattle.keys.proofs.Tests.{total}
-use Rattle.keys.specs.Laws.{places-lawful}
+use Rattle.keys.specs.Laws.{places_lawful}
 use Rattle.store.specs.Meaning.{run_at}
 use Rattle.moves.specs.Moving.{Appended}
 use Rattle.moves.proofs.Steps.{take_nth, nth_inside, nth-none, appended_more}
@@ -39,7 +39,7 @@ loop-value-preserved g c =
     let i = c.loop-value.i in
     let xs = run_at cmp (g.W.Store.meaning c.args.from.now) p in
     let at = c.in-Some.ensures in
-    let o = total (places-lawful cmp g.met.W.Key.Key.lawful) in
+    let o = total (places_lawful cmp g.met.W.Key.Key.lawful) in
     let more =
     appended_more cmp o (s c.args.to.now) (s c.loop-value.to) (s c.put_sure.new.side) p c.run_len-end.result (take i xs) v
     c.loop-value.invariant.2 c.put_sure.ensures.before c.put_sure.ensures.after c.put_sure.ensures.does c.run_len-end.ensures in (

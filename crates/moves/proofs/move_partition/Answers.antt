@@ -1,6 +1,6 @@
 use Rattle.std.proofs.Common.{◌<◌, ap, arith}
 use Rattle.keys.proofs.Tests.{total}
-use Rattle.keys.specs.Laws.{places-lawful}
+use Rattle.keys.specs.Laws.{places_lawful}
 use Rattle.store.specs.Meaning.{values_in}
 use Rattle.moves.proofs.Steps.{Moving, run-within, first-place, no_place, moving_none, moving_turn, moving_all}
 use Rattle.moves.proofs.move_partition.Goals as goal
@@ -8,7 +8,7 @@ use Rattle.moves.proofs.move_partition.Goals as goal
 pub loop-place-init : goal.loop-place-init
 loop-place-init g c =
     let cmp = g.W.Key.Key.ordered in
-    let o = total (places-lawful cmp g.met.W.Key.Key.lawful) in (
+    let o = total (places_lawful cmp g.met.W.Key.Key.lawful) in (
       c.requires.windows,
       c.requires.side,
       c.sound.ensures,
@@ -19,7 +19,7 @@ loop-place-init g c =
 turn : (g : _) (c : goal.After-sound-in-Some g) → Moving g.W.Key.Key.ordered (g.W.Store.meaning c.args.windows.now) (g.S.Store.meaning c.args.side.now) (g.W.Store.meaning c.remove_run.new.self) (g.S.Store.meaning c.copy_run.new.to) c.args.partition × (values_in (g.W.Store.meaning c.remove_run.new.self) c.args.partition < values_in (g.W.Store.meaning c.loop-place.windows) c.args.partition)
 turn g c =
     let cmp = g.W.Key.Key.ordered in
-    let o = total (places-lawful cmp g.met.W.Key.Key.lawful) in
+    let o = total (places_lawful cmp g.met.W.Key.Key.lawful) in
     let w = g.W.Store.meaning in
     let s = g.S.Store.meaning in
     let h = first-place cmp o (w c.loop-place.windows) c.args.partition c.in-Some.place c.in-Some.ensures in
@@ -29,7 +29,7 @@ turn g c =
 pub copy_run-requires : goal.copy_run-requires
 copy_run-requires g c =
     let cmp = g.W.Key.Key.ordered in
-    let o = total (places-lawful cmp g.met.W.Key.Key.lawful) in
+    let o = total (places_lawful cmp g.met.W.Key.Key.lawful) in
     let v = c.loop-place.invariant.3 in
     let at = (first-place cmp o (g.W.Store.meaning c.loop-place.windows) c.args.partition c.in-Some.place c.in-Some.ensures).0 in
     let within = run-within cmp o (g.W.Store.meaning c.loop-place.windows) c.args.partition c.in-Some.place at in
@@ -48,7 +48,7 @@ loop-place-preserved g c = (c.remove_run.ensures.ok, c.copy_run.ensures.ok, c.so
 pub returns : goal.returns
 returns g c =
     let cmp = g.W.Key.Key.ordered in
-    let o = total (places-lawful cmp g.met.W.Key.Key.lawful) in
+    let o = total (places_lawful cmp g.met.W.Key.Key.lawful) in
     let m1 = g.W.Store.meaning c.loop-place.windows in
     record {
       windows = c.loop-place.invariant.0;

@@ -1,13 +1,13 @@
 use Rattle.std.proofs.Common.{arith}
 use Rattle.keys.proofs.Tests.{total}
-use Rattle.keys.specs.Laws.{places-lawful}
+use Rattle.keys.specs.Laws.{places_lawful}
 use Rattle.moves.proofs.Steps.{first-place, no_place, run-within}
 use Rattle.pile.proofs.Pile.home_of.Goals as goal
 
 pub returns-in-Some : goal.returns-in-Some
 returns-in-Some g c =
     let cmp = g.W.Key.Key.ordered in
-    let o = total (places-lawful cmp g.met.W.Key.Key.lawful) in
+    let o = total (places_lawful cmp g.met.W.Key.Key.lawful) in
     let n = g.S.Store.meaning c.args.self.now.side in
     let h = first-place cmp o n c.args.partition c.in-Some.field-0 c.in-Some.ensures in (
       record { is_live = c.if-not-self.false; known = c.known.ensures; apiece = c.requires.apiece c.if-not-self.false },
@@ -17,7 +17,7 @@ returns-in-Some g c =
 pub returns-in-None : goal.returns-in-None
 returns-in-None g c =
     let cmp = g.W.Key.Key.ordered in
-    let o = total (places-lawful cmp g.met.W.Key.Key.lawful) in (
+    let o = total (places_lawful cmp g.met.W.Key.Key.lawful) in (
       record { is_live = c.if-not-self.false; known = c.known.ensures; apiece = c.requires.apiece c.if-not-self.false },
       no_place cmp o (g.S.Store.meaning c.args.self.now.side) c.args.partition c.in-None.ensures,
     )

@@ -1,6 +1,6 @@
 use Rattle.std.proofs.Common.{◌<◌, length, refl, ap, arith}
 use Rattle.keys.proofs.Tests.{total}
-use Rattle.keys.specs.Laws.{places-lawful}
+use Rattle.keys.specs.Laws.{places_lawful}
 use Rattle.moves.proofs.Steps.{gains-values}
 use Rattle.pile.specs.Piled.{joint}
 use Rattle.pile.proofs.Joint.{run-windows}
@@ -11,7 +11,7 @@ use Rattle.pile.proofs.Pile.put_full.Goals as goal
 pub returns-then-run_len-offset : goal.returns-then-run_len-offset
 returns-then-run_len-offset g c =
     let cmp = g.W.Key.Key.ordered in
-    let o = total (places-lawful cmp g.met.W.Key.Key.lawful) in
+    let o = total (places_lawful cmp g.met.W.Key.Key.lawful) in
     let m = g.W.Store.meaning c.args.self.now.windows in
     let n = g.S.Store.meaning c.args.self.now.side in
     let p = c.args.place.now in
@@ -26,7 +26,7 @@ returns-then-run_len-offset g c =
 pub returns : goal.returns
 returns g c =
     let cmp = g.W.Key.Key.ordered in
-    let o = total (places-lawful cmp g.met.W.Key.Key.lawful) in
+    let o = total (places_lawful cmp g.met.W.Key.Key.lawful) in
     let m = g.W.Store.meaning c.args.self.now.windows in
     let n = g.S.Store.meaning c.args.self.now.side in
     let p = c.args.place.now in

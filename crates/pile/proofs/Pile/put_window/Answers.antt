@@ -1,6 +1,6 @@
 use Rattle.std.proofs.Common.{◌≡◌, ◌≤◌, false, refl, arith}
 use Rattle.keys.proofs.Tests.{total}
-use Rattle.keys.specs.Laws.{places-lawful}
+use Rattle.keys.specs.Laws.{places_lawful}
 use Rattle.moves.proofs.Steps.{gains-values}
 use Rattle.pile.specs.Piled.{joint, spilled}
 use Rattle.pile.proofs.Changes.{apiece-windows, window-put, window-apiece, window-refused}
@@ -11,7 +11,7 @@ use Rattle.pile.proofs.Pile.put_window.Goals.{else-space-eq0-via-then-space-eq0+
 pub returns-in-Err : goal.returns-in-Err
 returns-in-Err g c =
     let cmp = g.W.Key.Key.ordered in
-    let o = total (places-lawful cmp g.met.W.Key.Key.lawful) in
+    let o = total (places_lawful cmp g.met.W.Key.Key.lawful) in
     let m = g.W.Store.meaning c.args.self.now.windows in
     let n = g.S.Store.meaning c.args.self.now.side in
     let d = c.in-Err.ensures.does in
@@ -25,7 +25,7 @@ returns-in-Err g c =
 pub returns-then-space-window : goal.returns-then-space-window
 returns-then-space-window g c =
     let cmp = g.W.Key.Key.ordered in
-    let o = total (places-lawful cmp g.met.W.Key.Key.lawful) in
+    let o = total (places_lawful cmp g.met.W.Key.Key.lawful) in
     let m = g.W.Store.meaning c.args.self.now.windows in
     let n = g.S.Store.meaning c.args.self.now.side in
     let m1 = g.W.Store.meaning c.put.new.self in
@@ -61,7 +61,7 @@ returns-then-space-window g c =
 pub returns-else-space-eq0 : goal.returns-else-space-eq0
 returns-else-space-eq0 g c =
     let cmp = g.W.Key.Key.ordered in
-    let o = total (places-lawful cmp g.met.W.Key.Key.lawful) in
+    let o = total (places_lawful cmp g.met.W.Key.Key.lawful) in
     let m = g.W.Store.meaning c.args.self.now.windows in
     let n = g.S.Store.meaning c.args.self.now.side in
     let m1 = g.W.Store.meaning c.put.new.self in

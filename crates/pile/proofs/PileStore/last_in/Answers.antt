@@ -1,6 +1,6 @@
 use Rattle.std.proofs.Common.{ap, ◌∙◌}
 use Rattle.keys.proofs.Tests.{total}
-use Rattle.keys.specs.Laws.{places-lawful}
+use Rattle.keys.specs.Laws.{places_lawful}
 use Rattle.store.specs.Meaning.{last_in}
 use Rattle.pile.proofs.Joint.{run-windows, run-side}
 use Rattle.pile.proofs.Lifts.{live-is, last-joint}
@@ -9,7 +9,7 @@ use Rattle.pile.proofs.PileStore.last_in.Goals as goal
 pub returns-in-Window : goal.returns-in-Window
 returns-in-Window g c =
     let cmp = g.W.Key.Key.ordered in
-    let o = total (places-lawful cmp g.met.W.Key.Key.lawful) in
+    let o = total (places_lawful cmp g.met.W.Key.Key.lawful) in
     let m = g.W.Store.meaning c.args.self.now.windows in
     let n = g.S.Store.meaning c.args.self.now.side in
     let at = c.in-Window.ensures in
@@ -18,7 +18,7 @@ returns-in-Window g c =
 pub returns-in-Side : goal.returns-in-Side
 returns-in-Side g c =
     let cmp = g.W.Key.Key.ordered in
-    let o = total (places-lawful cmp g.met.W.Key.Key.lawful) in
+    let o = total (places_lawful cmp g.met.W.Key.Key.lawful) in
     let m = g.W.Store.meaning c.args.self.now.windows in
     let n = g.S.Store.meaning c.args.self.now.side in
     let at = c.in-Side.ensures in

@@ -1,6 +1,6 @@
 use Rattle.std.proofs.Common.{refl}
 use Rattle.keys.proofs.Tests.{total}
-use Rattle.keys.specs.Laws.{places-lawful}
+use Rattle.keys.specs.Laws.{places_lawful}
 use Rattle.store.specs.Meaning.{Put}
 use Rattle.pile.proofs.Changes.{put-side}
 use Rattle.pile.proofs.Spilling.{spills_side}
@@ -10,7 +10,7 @@ use Rattle.pile.proofs.PileStore.put.Goals as goal
 pub returns-in-Side : goal.returns-in-Side
 returns-in-Side g c =
     let cmp = g.W.Key.Key.ordered in
-    let o = total (places-lawful cmp g.met.W.Key.Key.lawful) in
+    let o = total (places_lawful cmp g.met.W.Key.Key.lawful) in
     let m = g.W.Store.meaning c.args.self.now.windows in
     let n = g.S.Store.meaning c.args.self.now.side in
     let k = g.S.Store.meaning c.put-put.new.self in

@@ -1,6 +1,6 @@
-use Rattle.translate.specs.Keeping.{place-keeps}
+use Rattle.translate.specs.Keeping.{place_keeps}
 use Rattle.translate.proofs.place.compare_places.Goals as goal
 
 pub returns-clause-keeps : goal.returns-clause-keeps
 returns-clause-keeps g c =
-    place-keeps g.T.Key.Key.ordered c.args.prefix.now.bytes (g.T.Translator.meaning c.args.translator.now) (g.met.T.OrderedTranslator.keeps c.args.translator.now)
+    place_keeps g.T.Key.Key.ordered c.args.prefix.now.bytes (g.T.Translator.meaning c.args.translator.now) (g.met.T.OrderedTranslator.keeps c.args.translator.now)

@@ -1,4 +1,4 @@
-use Rattle.translate.specs.Keeping.{place-keeps}
+use Rattle.translate.specs.Keeping.{place_keeps}
 use Rattle.book.specs.State.{bytes}
 use Rattle.book.proofs.Near.{first-all}
 use Rattle.book.proofs.book.Book.first.Goals as goal
@@ -8,5 +8,5 @@ returns g c =
     let b = c.args.self.now in
     record {
       place = (c.in_ok-opened.ensures.0, first-all (g.S.Store.meaning b.store) c.first_from.result c.first_from.ensures);
-      keeps = place-keeps g.S.Key.Key.ordered (bytes b.prefix) (g.T.Translator.meaning b.translator) (g.met.T.OrderedTranslator.keeps b.translator);
+      keeps = place_keeps g.S.Key.Key.ordered (bytes b.prefix) (g.T.Translator.meaning b.translator) (g.met.T.OrderedTranslator.keeps b.translator);
     }
