@@ -8,8 +8,8 @@ use std::ops::Range;
 
 // The index of the first key that is not less than `key`.
 pub fn lower_bound<K: Key>(keys: &[K], key: &K) -> usize
-    requires { Sorted (before K.Key.ordered) keys.now }
-    ensures { result ≡ below (before K.Key.ordered) keys.now key.now }
+    requires { Sorted (before K.cmp) keys.now }
+    ensures { result ≡ below (before K.cmp) keys.now key.now }
 {
     let mut low = 0;
     let mut high = keys.len();
@@ -26,8 +26,8 @@ pub fn lower_bound<K: Key>(keys: &[K], key: &K) -> usize
 
 // The index of the first key that is greater than `key`.
 pub fn upper_bound<K: Key>(keys: &[K], key: &K) -> usize
-    requires { Sorted (before K.Key.ordered) keys.now }
-    ensures { result ≡ upto (before K.Key.ordered) keys.now key.now }
+    requires { Sorted (before K.cmp) keys.now }
+    ensures { result ≡ upto (before K.cmp) keys.now key.now }
 {
     let mut low = 0;
     let mut high = keys.len();
@@ -44,9 +44,9 @@ pub fn upper_bound<K: Key>(keys: &[K], key: &K) -> usize
 
 // Where the keys that are not greater than `key` end, by a scan forward from `from`.
 fn run_end<K: Key>(keys: &[K], from: usize, key: &K) -> usize
-    requires sorted { Sorted (before K.Key.ordered) keys.now }
-    requires from { from ≤ upto (before K.Key.ordered) keys.now key.now }
-    ensures { result ≡ upto (before K.Key.ordered) keys.now key.now }
+    requires sorted { Sorted (before K.cmp) keys.now }
+    requires from { from ≤ upto (before K.cmp) keys.now key.now }
+    ensures { result ≡ upto (before K.cmp) keys.now key.now }
 {
     let mut end = from;
     while end < keys.len() && !key.less(&keys[end]) {
@@ -57,10 +57,10 @@ fn run_end<K: Key>(keys: &[K], from: usize, key: &K) -> usize
 
 // The rest of the run of the key at `idx`, from there on (scans forward only).
 pub fn run_starting_at<K: Key>(keys: &[K], idx: usize) -> Range<usize>
-    requires sorted { Sorted (before K.Key.ordered) keys.now }
+    requires sorted { Sorted (before K.cmp) keys.now }
     requires within { idx < length keys.now }
     ensures start { result.start ≡ idx }
-    ensures end { (d : K) → result.end ≡ upto (before K.Key.ordered) keys.now (slice_index_or keys.now idx d) }
+    ensures end { (d : K) → result.end ≡ upto (before K.cmp) keys.now (slice_index_or keys.now idx d) }
     ensures ordered { result.start ≤ result.end }
     ensures within { result.end ≤ length keys.now }
 {
@@ -71,9 +71,9 @@ pub fn run_starting_at<K: Key>(keys: &[K], idx: usize) -> Range<usize>
 
 // The run of the key at `idx`, up to there (scans backward only).
 pub fn run_ending_at<K: Key>(keys: &[K], idx: usize) -> Range<usize>
-    requires sorted { Sorted (before K.Key.ordered) keys.now }
+    requires sorted { Sorted (before K.cmp) keys.now }
     requires within { idx < length keys.now }
-    ensures start { (d : K) → result.start ≡ below (before K.Key.ordered) keys.now (slice_index_or keys.now idx d) }
+    ensures start { (d : K) → result.start ≡ below (before K.cmp) keys.now (slice_index_or keys.now idx d) }
     ensures end { result.end ≡ idx + 1 }
     ensures ordered { result.start ≤ result.end }
     ensures within { result.end ≤ length keys.now }
@@ -88,9 +88,9 @@ pub fn run_ending_at<K: Key>(keys: &[K], idx: usize) -> Range<usize>
 
 // The run of `key`, empty where there is none.
 pub fn run_range<K: Key>(keys: &[K], key: &K) -> Range<usize>
-    requires { Sorted (before K.Key.ordered) keys.now }
-    ensures start { result.start ≡ below (before K.Key.ordered) keys.now key.now }
-    ensures end { result.end ≡ upto (before K.Key.ordered) keys.now key.now }
+    requires { Sorted (before K.cmp) keys.now }
+    ensures start { result.start ≡ below (before K.cmp) keys.now key.now }
+    ensures end { result.end ≡ upto (before K.cmp) keys.now key.now }
     ensures ordered { result.start ≤ result.end }
     ensures within { result.end ≤ length keys.now }
 {

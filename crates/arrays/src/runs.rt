@@ -12,9 +12,9 @@ use std::ops::Range;
 
 // The values of `key` (none where it is absent).
 pub fn values<'a, K: Key, V>(keys: &[K], values: &'a [V], key: &K) -> &'a [V]
-    requires sorted { Sorted (before K.Key.ordered) keys.now }
+    requires sorted { Sorted (before K.cmp) keys.now }
     requires alongside { length keys.now ≡ length values.now }
-    ensures { result.now ≡ run (before K.Key.ordered) (entries keys.now values.now) key.now }
+    ensures { result.now ≡ run (before K.cmp) (entries keys.now values.now) key.now }
 {
     let Range { start, end } = run_range(keys, key);
     &values[start..end]
@@ -22,9 +22,9 @@ pub fn values<'a, K: Key, V>(keys: &[K], values: &'a [V], key: &K) -> &'a [V]
 
 // The values of the least key.
 pub fn first_values<'a, K: Key, V>(keys: &[K], values: &'a [V]) -> Option<&'a [V]>
-    requires sorted { Sorted (before K.Key.ordered) keys.now }
+    requires sorted { Sorted (before K.cmp) keys.now }
     requires alongside { length keys.now ≡ length values.now }
-    ensures { option_map (λ s. s.now) result ≡ handed (before K.Key.ordered) (entries keys.now values.now) (first_that (λ _. true) keys.now) }
+    ensures { option_map (λ s. s.now) result ≡ handed (before K.cmp) (entries keys.now values.now) (first_that (λ _. true) keys.now) }
 {
     if keys.len() == 0 {
         return None;
@@ -35,9 +35,9 @@ pub fn first_values<'a, K: Key, V>(keys: &[K], values: &'a [V]) -> Option<&'a [V
 
 // The values of the greatest key.
 pub fn last_values<'a, K: Key, V>(keys: &[K], values: &'a [V]) -> Option<&'a [V]>
-    requires sorted { Sorted (before K.Key.ordered) keys.now }
+    requires sorted { Sorted (before K.cmp) keys.now }
     requires alongside { length keys.now ≡ length values.now }
-    ensures { option_map (λ s. s.now) result ≡ handed (before K.Key.ordered) (entries keys.now values.now) (last_that (λ _. true) keys.now) }
+    ensures { option_map (λ s. s.now) result ≡ handed (before K.cmp) (entries keys.now values.now) (last_that (λ _. true) keys.now) }
 {
     let len = keys.len();
     if len == 0 {
@@ -49,9 +49,9 @@ pub fn last_values<'a, K: Key, V>(keys: &[K], values: &'a [V]) -> Option<&'a [V]
 
 // The values of the least key that is greater than `key`.
 pub fn next_values_after<'a, K: Key, V>(keys: &[K], values: &'a [V], key: &K) -> Option<&'a [V]>
-    requires sorted { Sorted (before K.Key.ordered) keys.now }
+    requires sorted { Sorted (before K.cmp) keys.now }
     requires alongside { length keys.now ≡ length values.now }
-    ensures { option_map (λ s. s.now) result ≡ handed (before K.Key.ordered) (entries keys.now values.now) (first_that (λ x. before K.Key.ordered key.now x) keys.now) }
+    ensures { option_map (λ s. s.now) result ≡ handed (before K.cmp) (entries keys.now values.now) (first_that (λ x. before K.cmp key.now x) keys.now) }
 {
     let idx = upper_bound(keys, key);
     if idx >= keys.len() {
@@ -63,9 +63,9 @@ pub fn next_values_after<'a, K: Key, V>(keys: &[K], values: &'a [V], key: &K) ->
 
 // The values of the greatest key that is less than `key`.
 pub fn prev_values_before<'a, K: Key, V>(keys: &[K], values: &'a [V], key: &K) -> Option<&'a [V]>
-    requires sorted { Sorted (before K.Key.ordered) keys.now }
+    requires sorted { Sorted (before K.cmp) keys.now }
     requires alongside { length keys.now ≡ length values.now }
-    ensures { option_map (λ s. s.now) result ≡ handed (before K.Key.ordered) (entries keys.now values.now) (last_that (λ x. before K.Key.ordered x key.now) keys.now) }
+    ensures { option_map (λ s. s.now) result ≡ handed (before K.cmp) (entries keys.now values.now) (last_that (λ x. before K.cmp x key.now) keys.now) }
 {
     let idx = lower_bound(keys, key);
     if idx == 0 {

@@ -23,7 +23,7 @@ impl<S: Store, T: Translator<Key = S::Key>> Book<S, T> {
     // A book that no call was made of. It is sound where P is 1 to 3 and the store is empty, has 256 ^ P partitions and is assured of some space.
     pub fn open(label: u32, p: u64, store: S, translator: T) -> Book<S, T>
         requires { S.Store.ok store }
-        ensures ok { BookOk S.Store.meaning S.Store.ok S.Key.Key.ordered result }
+        ensures ok { BookOk S.Store.meaning S.Store.ok S.Key.cmp result }
         ensures opens { state S.Store.meaning result ≡ opened label p (S.Store.meaning store) translator }
     {
         let prefix = sound_prefix(p, &store);
@@ -49,9 +49,9 @@ impl<S: Store, T: Translator<Key = S::Key>> Book<S, T> {
 
     // Appends `value` to the run of `key`.
     pub fn insert(&mut self, key: &[u8], value: S::Value) -> Result<(), Refusal>
-        requires { BookOk S.Store.meaning S.Store.ok S.Key.Key.ordered self.old }
-        ensures ok { BookOk S.Store.meaning S.Store.ok S.Key.Key.ordered self.new }
-        ensures does { Insert S.Key.Key.ordered (state S.Store.meaning self.old) (state S.Store.meaning self.new) (place_of (state S.Store.meaning self.old).prefix (T.Translator.meaning self.old.translator) key.now) value result }
+        requires { BookOk S.Store.meaning S.Store.ok S.Key.cmp self.old }
+        ensures ok { BookOk S.Store.meaning S.Store.ok S.Key.cmp self.new }
+        ensures does { Insert S.Key.cmp (state S.Store.meaning self.old) (state S.Store.meaning self.new) (place_of (state S.Store.meaning self.old).prefix (T.Translator.meaning self.old.translator) key.now) value result }
     {
         let place = self.place(key)?;
         if self.items == u64::MAX {

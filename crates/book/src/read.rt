@@ -18,8 +18,8 @@ use translate::{OrderedTranslator, Translator};
 impl<S: Store, T: Translator<Key = S::Key>> Book<S, T> {
     // Copies the run of `key` to the first slots, and answers its length.
     pub fn get(&self, key: &[u8], slots: &mut [S::Value]) -> Result<usize, Refusal>
-        requires { BookOk S.Store.meaning S.Store.ok S.Key.Key.ordered self.now }
-        ensures { Copy S.Key.Key.ordered (state S.Store.meaning self.now) (place_of (state S.Store.meaning self.now).prefix (T.Translator.meaning self.now.translator) key.now) slots.old slots.new result }
+        requires { BookOk S.Store.meaning S.Store.ok S.Key.cmp self.now }
+        ensures { Copy S.Key.cmp (state S.Store.meaning self.now) (place_of (state S.Store.meaning self.now).prefix (T.Translator.meaning self.now.translator) key.now) slots.old slots.new result }
     {
         let place = self.place(key)?;
         self.run(&place, slots)
@@ -27,8 +27,8 @@ impl<S: Store, T: Translator<Key = S::Key>> Book<S, T> {
 
     // Copies the run at `place` to the first slots, and answers its length.
     pub fn run(&self, place: &Place<S::Key>, slots: &mut [S::Value]) -> Result<usize, Refusal>
-        requires { BookOk S.Store.meaning S.Store.ok S.Key.Key.ordered self.now }
-        ensures { Copy S.Key.Key.ordered (state S.Store.meaning self.now) place.now slots.old slots.new result }
+        requires { BookOk S.Store.meaning S.Store.ok S.Key.cmp self.now }
+        ensures { Copy S.Key.cmp (state S.Store.meaning self.now) place.now slots.old slots.new result }
     {
         self.opened()?;
         let len = self.store.run_len(place) as usize;
@@ -41,8 +41,8 @@ impl<S: Store, T: Translator<Key = S::Key>> Book<S, T> {
 
     // The number of places held, of values held, and of values struck.
     pub fn counts(&self) -> Result<Counts, Refusal>
-        requires { BookOk S.Store.meaning S.Store.ok S.Key.Key.ordered self.now }
-        ensures { Answers (state S.Store.meaning self.now) (counts S.Key.Key.ordered (state S.Store.meaning self.now)) result }
+        requires { BookOk S.Store.meaning S.Store.ok S.Key.cmp self.now }
+        ensures { Answers (state S.Store.meaning self.now) (counts S.Key.cmp (state S.Store.meaning self.now)) result }
     {
         self.opened()?;
         Ok(Counts {
@@ -74,9 +74,9 @@ impl<S: Store, T: Translator<Key = S::Key>> Book<S, T> {
 impl<S: Store, T: OrderedTranslator<Key = S::Key>> Book<S, T> {
     // The least place.
     pub fn first(&self) -> Result<Option<Place<S::Key>>, Refusal>
-        requires { BookOk S.Store.meaning S.Store.ok S.Key.Key.ordered self.now }
+        requires { BookOk S.Store.meaning S.Store.ok S.Key.cmp self.now }
         ensures place { Answers (state S.Store.meaning self.now) (first_that (λ _. true) (places (state S.Store.meaning self.now).store.contents)) result }
-        ensures keeps { Keeps (place_order S.Key.Key.ordered) (place_of (state S.Store.meaning self.now).prefix (T.Translator.meaning self.now.translator)) }
+        ensures keeps { Keeps (place_order S.Key.cmp) (place_of (state S.Store.meaning self.now).prefix (T.Translator.meaning self.now.translator)) }
     {
         self.opened()?;
         Ok(first_from(&self.store, 0))
@@ -84,7 +84,7 @@ impl<S: Store, T: OrderedTranslator<Key = S::Key>> Book<S, T> {
 
     // The greatest place.
     pub fn last(&self) -> Result<Option<Place<S::Key>>, Refusal>
-        requires { BookOk S.Store.meaning S.Store.ok S.Key.Key.ordered self.now }
+        requires { BookOk S.Store.meaning S.Store.ok S.Key.cmp self.now }
         ensures { Answers (state S.Store.meaning self.now) (last_that (λ _. true) (places (state S.Store.meaning self.now).store.contents)) result }
     {
         self.opened()?;
@@ -93,8 +93,8 @@ impl<S: Store, T: OrderedTranslator<Key = S::Key>> Book<S, T> {
 
     // The least place after `place`; none after the last.
     pub fn next_after(&self, place: &Place<S::Key>) -> Result<Option<Place<S::Key>>, Refusal>
-        requires { BookOk S.Store.meaning S.Store.ok S.Key.Key.ordered self.now }
-        ensures { Answers (state S.Store.meaning self.now) (first_that (before (place_order S.Key.Key.ordered) place.now) (places (state S.Store.meaning self.now).store.contents)) result }
+        requires { BookOk S.Store.meaning S.Store.ok S.Key.cmp self.now }
+        ensures { Answers (state S.Store.meaning self.now) (first_that (before (place_order S.Key.cmp) place.now) (places (state S.Store.meaning self.now).store.contents)) result }
     {
         self.opened()?;
         Ok(next_place(&self.store, place))
@@ -104,9 +104,9 @@ impl<S: Store, T: OrderedTranslator<Key = S::Key>> Book<S, T> {
 // Copies a run of `len` values to the first slots.
 fn copy_run<S: Store>(store: &S, place: &Place<S::Key>, len: usize, slots: &mut [S::Value])
     requires ok { S.Store.ok store.now }
-    requires whole { len ≡ length (run_at S.Key.Key.ordered (S.Store.meaning store.now) place.now) }
+    requires whole { len ≡ length (run_at S.Key.cmp (S.Store.meaning store.now) place.now) }
     requires room { len ≤ length slots.old }
-    ensures { slots.new ≡ run_at S.Key.Key.ordered (S.Store.meaning store.now) place.now ++ drop len slots.old }
+    ensures { slots.new ≡ run_at S.Key.cmp (S.Store.meaning store.now) place.now ++ drop len slots.old }
 {
     for i in 0..len {
         match store.value_at(place, i as u64) {
@@ -149,7 +149,7 @@ fn last_of<S: Store>(store: &S) -> Option<Place<S::Key>>
 // The least place after `place`, which may be of any partition.
 fn next_place<S: Store>(store: &S, place: &Place<S::Key>) -> Option<Place<S::Key>>
     requires { S.Store.ok store.now }
-    ensures { result ≡ first_that (before (place_order S.Key.Key.ordered) place.now) (places (S.Store.meaning store.now).contents) }
+    ensures { result ≡ first_that (before (place_order S.Key.cmp) place.now) (places (S.Store.meaning store.now).contents) }
 {
     store.sound();
     if let Some(next) = store.next_in(place) {

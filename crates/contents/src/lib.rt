@@ -12,40 +12,40 @@ use keys::Key;
 
 // The same runs are the same contents.
 pub fn same_runs<K: Key, V: Copy + Drop>(_k: &K, _v: &V)
-    ensures { (es fs : List (Entry K V)) → Rising (before K.Key.ordered) es → Rising (before K.Key.ordered) fs → ((q : K) → run (before K.Key.ordered) es q ≡ run (before K.Key.ordered) fs q) → es ≡ fs }
+    ensures { (es fs : List (Entry K V)) → Rising (before K.cmp) es → Rising (before K.cmp) fs → ((q : K) → run (before K.cmp) es q ≡ run (before K.cmp) fs q) → es ≡ fs }
 {}
 
 // A value inserted at the start of its key's run plus an offset: sorted stays sorted, the run gains the value, and no other run changes.
 pub fn insert_gains<K: Key, V: Copy + Drop>(_k: &K, _v: &V)
-    ensures sorted { (es : List (Entry K V)) (p : K) (i : ℕ) (v : V) → Rising (before K.Key.ordered) es → i ≤ length (run (before K.Key.ordered) es p) → Rising (before K.Key.ordered) (insert es (below (before K.Key.ordered) (places es) p + i) (entry p v)) }
-    ensures gains { (es : List (Entry K V)) (p : K) (i : ℕ) (v : V) → Rising (before K.Key.ordered) es → i ≤ length (run (before K.Key.ordered) es p) → Gains (before K.Key.ordered) es (insert es (below (before K.Key.ordered) (places es) p + i) (entry p v)) p i v }
+    ensures sorted { (es : List (Entry K V)) (p : K) (i : ℕ) (v : V) → Rising (before K.cmp) es → i ≤ length (run (before K.cmp) es p) → Rising (before K.cmp) (insert es (below (before K.cmp) (places es) p + i) (entry p v)) }
+    ensures gains { (es : List (Entry K V)) (p : K) (i : ℕ) (v : V) → Rising (before K.cmp) es → i ≤ length (run (before K.cmp) es p) → Gains (before K.cmp) es (insert es (below (before K.cmp) (places es) p + i) (entry p v)) p i v }
 {}
 
 // A value removed from its key's run: sorted stays sorted, the run loses the value, and no other run changes.
 pub fn remove_loses<K: Key, V: Copy + Drop>(_k: &K, _v: &V)
-    ensures sorted { (es : List (Entry K V)) (i : ℕ) → Rising (before K.Key.ordered) es → Rising (before K.Key.ordered) (remove es i) }
-    ensures loses { (es : List (Entry K V)) (p : K) (i : ℕ) (v : V) → Rising (before K.Key.ordered) es → i < length (run (before K.Key.ordered) es p) → v ≡ slice_index_or (run (before K.Key.ordered) es p) i v → Gains (before K.Key.ordered) (remove es (below (before K.Key.ordered) (places es) p + i)) es p i v }
+    ensures sorted { (es : List (Entry K V)) (i : ℕ) → Rising (before K.cmp) es → Rising (before K.cmp) (remove es i) }
+    ensures loses { (es : List (Entry K V)) (p : K) (i : ℕ) (v : V) → Rising (before K.cmp) es → i < length (run (before K.cmp) es p) → v ≡ slice_index_or (run (before K.cmp) es p) i v → Gains (before K.cmp) (remove es (below (before K.cmp) (places es) p + i)) es p i v }
 {}
 
 // A value of a key's run replaced: sorted stays sorted, the run has the new value there, and no other run changes.
 pub fn set_replaces<K: Key, V: Copy + Drop>(_k: &K, _v: &V)
-    ensures { (es : List (Entry K V)) (p : K) (i : ℕ) (v : V) → Rising (before K.Key.ordered) es → i < length (run (before K.Key.ordered) es p) → Rising (before K.Key.ordered) (slice_set es (below (before K.Key.ordered) (places es) p + i) (entry p v)) × Sets (before K.Key.ordered) es (slice_set es (below (before K.Key.ordered) (places es) p + i) (entry p v)) p i v }
+    ensures { (es : List (Entry K V)) (p : K) (i : ℕ) (v : V) → Rising (before K.cmp) es → i < length (run (before K.cmp) es p) → Rising (before K.cmp) (slice_set es (below (before K.cmp) (places es) p + i) (entry p v)) × Sets (before K.cmp) es (slice_set es (below (before K.cmp) (places es) p + i) (entry p v)) p i v }
 {}
 
 // What a put adds: one value, and one key exactly where the run was empty.
 pub fn put_adds<K: Key, V: Copy + Drop>(_k: &K, _v: &V)
-    ensures values { (es fs : List (Entry K V)) (p : K) (i : ℕ) (v : V) → Rising (before K.Key.ordered) es → Rising (before K.Key.ordered) fs → Gains (before K.Key.ordered) es fs p i v → items fs ≡ items es + 1 }
-    ensures places { (es fs : List (Entry K V)) (p : K) (i : ℕ) (v : V) → Rising (before K.Key.ordered) es → Rising (before K.Key.ordered) fs → Gains (before K.Key.ordered) es fs p i v → keys (before K.Key.ordered) fs ≡ keys (before K.Key.ordered) es + (if none (run (before K.Key.ordered) es p) then 1 else 0) }
+    ensures values { (es fs : List (Entry K V)) (p : K) (i : ℕ) (v : V) → Rising (before K.cmp) es → Rising (before K.cmp) fs → Gains (before K.cmp) es fs p i v → items fs ≡ items es + 1 }
+    ensures places { (es fs : List (Entry K V)) (p : K) (i : ℕ) (v : V) → Rising (before K.cmp) es → Rising (before K.cmp) fs → Gains (before K.cmp) es fs p i v → keys (before K.cmp) fs ≡ keys (before K.cmp) es + (if none (run (before K.cmp) es p) then 1 else 0) }
 {}
 
 // A value replaced changes neither count.
 pub fn set_keeps<K: Key, V: Copy + Drop>(_k: &K, _v: &V)
-    ensures values { (es fs : List (Entry K V)) (p : K) (i : ℕ) (v : V) → Rising (before K.Key.ordered) es → Rising (before K.Key.ordered) fs → Sets (before K.Key.ordered) es fs p i v → items fs ≡ items es }
-    ensures places { (es fs : List (Entry K V)) (p : K) (i : ℕ) (v : V) → Rising (before K.Key.ordered) es → Rising (before K.Key.ordered) fs → Sets (before K.Key.ordered) es fs p i v → keys (before K.Key.ordered) fs ≡ keys (before K.Key.ordered) es }
+    ensures values { (es fs : List (Entry K V)) (p : K) (i : ℕ) (v : V) → Rising (before K.cmp) es → Rising (before K.cmp) fs → Sets (before K.cmp) es fs p i v → items fs ≡ items es }
+    ensures places { (es fs : List (Entry K V)) (p : K) (i : ℕ) (v : V) → Rising (before K.cmp) es → Rising (before K.cmp) fs → Sets (before K.cmp) es fs p i v → keys (before K.cmp) fs ≡ keys (before K.cmp) es }
 {}
 
 // A run removed takes its values away, and one key where there was one.
 pub fn clear_drops<K: Key, V: Copy + Drop>(_k: &K, _v: &V)
-    ensures values { (es fs : List (Entry K V)) (p : K) → Rising (before K.Key.ordered) es → Rising (before K.Key.ordered) fs → Clears (before K.Key.ordered) es fs p → items es ≡ items fs + length (run (before K.Key.ordered) es p) }
-    ensures places { (es fs : List (Entry K V)) (p : K) → Rising (before K.Key.ordered) es → Rising (before K.Key.ordered) fs → Clears (before K.Key.ordered) es fs p → keys (before K.Key.ordered) es ≡ keys (before K.Key.ordered) fs + (if none (run (before K.Key.ordered) es p) then 0 else 1) }
+    ensures values { (es fs : List (Entry K V)) (p : K) → Rising (before K.cmp) es → Rising (before K.cmp) fs → Clears (before K.cmp) es fs p → items es ≡ items fs + length (run (before K.cmp) es p) }
+    ensures places { (es fs : List (Entry K V)) (p : K) → Rising (before K.cmp) es → Rising (before K.cmp) fs → Clears (before K.cmp) es fs p → keys (before K.cmp) es ≡ keys (before K.cmp) fs + (if none (run (before K.cmp) es p) then 0 else 1) }
 {}

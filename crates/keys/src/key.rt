@@ -1,40 +1,21 @@
 // What a key is, and the number keys.
 ghost use Rattle.std.specs.Prelude.{◌≡◌};
-ghost use Rattle.std.specs.declared.cmp.Ordering.{Ordering};
-ghost use Rattle.std.specs.Ordering.{nat_cmp};
 ghost use Rattle.keys.specs.Order.{Lawful, before};
 ghost use Rattle.keys.specs.Laws.{numbers_lawful};
 
-use std::cmp::Ordering;
-
-// A key, by the comparison that is its one order.
-pub trait Key: Copy + Drop {
-    ghost ordered: { Self → Self → Ordering };
-
-    // How `self` stands to `other`.
-    fn compare(&self, other: &Self) -> Ordering
-        ensures { result ≡ ordered self.now other.now };
-
+// A key, by the one order that `cmp` gives; keys that are equal in it are the same key.
+pub trait Key: Ord + Copy + Drop {
     // Whether `self` comes before `other`.
     fn less(&self, other: &Self) -> bool
-        ensures { result ≡ before ordered self.now other.now }
+        ensures { result ≡ before Self.cmp self.now other.now }
     {
-        match self.compare(other) {
-            Ordering::Less => true,
-            _ => false,
-        }
+        self.cmp(other).is_lt()
     }
 
-    ghost lawful: { Lawful ordered };
+    ghost lawful: { Lawful Self.cmp };
 }
 
 // A number key: 32 bits, unsigned.
 impl Key for u32 {
-    ghost ordered = { nat_cmp };
-
     ghost lawful = { numbers_lawful };
-
-    fn compare(&self, other: &u32) -> Ordering {
-        self.cmp(other)
-    }
 }

@@ -1,23 +1,25 @@
 // Label keys.
-ghost use Rattle.std.specs.Prelude.{◌≡◌};
-ghost use Rattle.keys.specs.Orders.{label_order};
 ghost use Rattle.keys.specs.Laws.{labels_lawful};
 
 use crate::key::Key;
-use std::cmp::Ordering;
+use std::fmt;
 
 // Eight bytes, compared byte by byte.
-#[derive(Clone, Copy)]
+#[derive(Clone, Copy, Default, PartialEq, Eq, PartialOrd, Ord)]
 pub struct Label {
     pub bytes: [u8; 8],
 }
 
 impl Key for Label {
-    ghost ordered = { label_order };
-
     ghost lawful = { labels_lawful };
+}
 
-    fn compare(&self, other: &Label) -> Ordering {
-        self.bytes.cmp(&other.bytes)
+// 16 hexadecimal digits.
+impl fmt::Display for Label {
+    fn fmt<W: fmt::Write>(&self, f: &mut fmt::Formatter<W>) -> fmt::Result {
+        for b in self.bytes {
+            write!(f, "{b:02x}")?;
+        }
+        Ok(())
     }
 }

@@ -12,11 +12,11 @@ use store::{Store, Windowed};
 pub fn put_sure<S: Store>(side: &mut S, place: &Place<S::Key>, offset: u64, value: S::Value)
     requires ok { S.Store.ok side.old }
     requires roomy { 0 < (S.Store.meaning side.old).space place.now.partition }
-    requires inside { offset ≤ length (run_at S.Key.Key.ordered (S.Store.meaning side.old) place.now) }
+    requires inside { offset ≤ length (run_at S.Key.cmp (S.Store.meaning side.old) place.now) }
     ensures ok { S.Store.ok side.new }
-    ensures does { PutDone S.Key.Key.ordered (S.Store.meaning side.old) (S.Store.meaning side.new) place.now offset value }
-    ensures before { Sound S.Key.Key.ordered (S.Store.meaning side.old) }
-    ensures after { Sound S.Key.Key.ordered (S.Store.meaning side.new) }
+    ensures does { PutDone S.Key.cmp (S.Store.meaning side.old) (S.Store.meaning side.new) place.now offset value }
+    ensures before { Sound S.Key.cmp (S.Store.meaning side.old) }
+    ensures after { Sound S.Key.cmp (S.Store.meaning side.new) }
 {
     side.sound();
     match side.put(place, offset, value) {
@@ -34,10 +34,10 @@ pub fn copy_run<W: Store, S: Store<Key = W::Key, Value = W::Value>>(
 )
     requires from { W.Store.ok from.now }
     requires ok { S.Store.ok to.old }
-    requires roomy { length (run_at W.Key.Key.ordered (W.Store.meaning from.now) place.now) ≤ (S.Store.meaning to.old).space place.now.partition }
+    requires roomy { length (run_at W.Key.cmp (W.Store.meaning from.now) place.now) ≤ (S.Store.meaning to.old).space place.now.partition }
     ensures ok { S.Store.ok to.new }
-    ensures does { Appended W.Key.Key.ordered (S.Store.meaning to.old) (S.Store.meaning to.new) place.now (run_at W.Key.Key.ordered (W.Store.meaning from.now) place.now) }
-    ensures after { Sound W.Key.Key.ordered (S.Store.meaning to.new) }
+    ensures does { Appended W.Key.cmp (S.Store.meaning to.old) (S.Store.meaning to.new) place.now (run_at W.Key.cmp (W.Store.meaning from.now) place.now) }
+    ensures after { Sound W.Key.cmp (S.Store.meaning to.new) }
 {
     to.sound();
     let mut i = 0;
@@ -60,7 +60,7 @@ pub fn move_partition<W: Windowed, S: Store<Key = W::Key, Value = W::Value>>(
     requires roomy { values_in (W.Store.meaning windows.old) partition ≤ (S.Store.meaning side.old).space partition }
     ensures windows { W.Store.ok windows.new }
     ensures side { S.Store.ok side.new }
-    ensures moved { Moved W.Key.Key.ordered (W.Store.meaning windows.old) (S.Store.meaning side.old) (W.Store.meaning windows.new) (S.Store.meaning side.new) partition }
+    ensures moved { Moved W.Key.cmp (W.Store.meaning windows.old) (S.Store.meaning side.old) (W.Store.meaning windows.new) (S.Store.meaning side.new) partition }
 {
     windows.sound();
     while let Some(place) = windows.first_in(partition) {

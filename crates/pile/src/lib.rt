@@ -59,7 +59,7 @@ impl<W: Windowed, S: Store<Key = W::Key, Value = W::Value>> Pile<W, S> {
     fn known(&self)
         requires windows { W.Store.ok self.now.windows }
         requires side { S.Store.ok self.now.side }
-        ensures { KnownPile W.Key.Key.ordered W.Store.meaning S.Store.meaning self.now }
+        ensures { KnownPile W.Key.cmp W.Store.meaning S.Store.meaning self.now }
     {
         self.windows.sound();
         self.side.sound();
@@ -69,7 +69,7 @@ impl<W: Windowed, S: Store<Key = W::Key, Value = W::Value>> Pile<W, S> {
     // Where the calls at a partition go: to the side where it has a value there.
     fn home_of(&self, partition: u64) -> Home
         requires { PileOk W.Store.ok S.Store.ok W.Store.meaning S.Store.meaning self.now }
-        ensures { HomeIs W.Key.Key.ordered W.Store.meaning S.Store.meaning self.now partition result }
+        ensures { HomeIs W.Key.cmp W.Store.meaning S.Store.meaning self.now partition result }
     {
         if !self.live {
             return Home::Void;
@@ -85,9 +85,9 @@ impl<W: Windowed, S: Store<Key = W::Key, Value = W::Value>> Pile<W, S> {
     fn space_moved(&self, partition: u64) -> u64
         requires windows { W.Store.ok self.now.windows }
         requires side { S.Store.ok self.now.side }
-        requires live { LivePile W.Key.Key.ordered W.Store.meaning S.Store.meaning self.now }
+        requires live { LivePile W.Key.cmp W.Store.meaning S.Store.meaning self.now }
         requires apart { values_in (S.Store.meaning self.now.side) partition ≡ 0 }
-        ensures { result ≡ (live_meaning W.Key.Key.ordered W.Store.meaning S.Store.meaning self.now).space partition }
+        ensures { result ≡ (live_meaning W.Key.cmp W.Store.meaning S.Store.meaning self.now).space partition }
     {
         let window = self.windows.space(partition);
         let used = self.windows.window() - window;
@@ -104,8 +104,8 @@ impl<W: Windowed, S: Store<Key = W::Key, Value = W::Value>> Pile<W, S> {
         ensures windows { W.Store.ok self.new.windows }
         ensures side { S.Store.ok self.new.side }
         ensures lives { self.new.live ≡ self.old.live }
-        ensures known { KnownPile W.Key.Key.ordered W.Store.meaning S.Store.meaning self.new }
-        ensures moved { Moved W.Key.Key.ordered (W.Store.meaning self.old.windows) (S.Store.meaning self.old.side) (W.Store.meaning self.new.windows) (S.Store.meaning self.new.side) partition }
+        ensures known { KnownPile W.Key.cmp W.Store.meaning S.Store.meaning self.new }
+        ensures moved { Moved W.Key.cmp (W.Store.meaning self.old.windows) (S.Store.meaning self.old.side) (W.Store.meaning self.new.windows) (S.Store.meaning self.new.side) partition }
         ensures counted { self.new.spills ≡ (self.old.spills + 1) % 2 ^ 64 }
     {
         move_partition(&mut self.windows, &mut self.side, partition);
@@ -122,12 +122,12 @@ impl<W: Windowed, S: Store<Key = W::Key, Value = W::Value>> Pile<W, S> {
     ) -> Result<(), Refusal>
         requires windows { W.Store.ok self.old.windows }
         requires side { S.Store.ok self.old.side }
-        requires live { LivePile W.Key.Key.ordered W.Store.meaning S.Store.meaning self.old }
+        requires live { LivePile W.Key.cmp W.Store.meaning S.Store.meaning self.old }
         requires apart { values_in (S.Store.meaning self.old.side) place.now.partition ≡ 0 }
         requires roomy { 0 < (W.Store.meaning self.old.windows).space place.now.partition }
         ensures ok { PileOk W.Store.ok S.Store.ok W.Store.meaning S.Store.meaning self.new }
         ensures lives { self.new.live ≡ self.old.live }
-        ensures does { Put W.Key.Key.ordered (live_meaning W.Key.Key.ordered W.Store.meaning S.Store.meaning self.old) (live_meaning W.Key.Key.ordered W.Store.meaning S.Store.meaning self.new) place.now offset value result }
+        ensures does { Put W.Key.cmp (live_meaning W.Key.cmp W.Store.meaning S.Store.meaning self.old) (live_meaning W.Key.cmp W.Store.meaning S.Store.meaning self.new) place.now offset value result }
         ensures counted { Spills W.Store.meaning S.Store.meaning self.old self.new place.now.partition result }
     {
         match self.windows.put(place, offset, value) {
@@ -153,12 +153,12 @@ impl<W: Windowed, S: Store<Key = W::Key, Value = W::Value>> Pile<W, S> {
     ) -> Result<(), Refusal>
         requires windows { W.Store.ok self.old.windows }
         requires side { S.Store.ok self.old.side }
-        requires live { LivePile W.Key.Key.ordered W.Store.meaning S.Store.meaning self.old }
+        requires live { LivePile W.Key.cmp W.Store.meaning S.Store.meaning self.old }
         requires apart { values_in (S.Store.meaning self.old.side) place.now.partition ≡ 0 }
         requires full { (W.Store.meaning self.old.windows).space place.now.partition ≡ 0 }
         ensures ok { PileOk W.Store.ok S.Store.ok W.Store.meaning S.Store.meaning self.new }
         ensures lives { self.new.live ≡ self.old.live }
-        ensures does { Put W.Key.Key.ordered (live_meaning W.Key.Key.ordered W.Store.meaning S.Store.meaning self.old) (live_meaning W.Key.Key.ordered W.Store.meaning S.Store.meaning self.new) place.now offset value result }
+        ensures does { Put W.Key.cmp (live_meaning W.Key.cmp W.Store.meaning S.Store.meaning self.old) (live_meaning W.Key.cmp W.Store.meaning S.Store.meaning self.new) place.now offset value result }
         ensures counted { Spills W.Store.meaning S.Store.meaning self.old self.new place.now.partition result }
     {
         if self.side.space(place.partition) <= self.windows.window() {
@@ -178,7 +178,7 @@ impl<W: Windowed, S: Store<Key = W::Key, Value = W::Value>> Store for Pile<W, S>
 
     type Value = W::Value;
 
-    ghost meaning = { pile_meaning W.Key.Key.ordered W.Store.meaning S.Store.meaning };
+    ghost meaning = { pile_meaning W.Key.cmp W.Store.meaning S.Store.meaning };
 
     ghost ok = { PileOk W.Store.ok S.Store.ok W.Store.meaning S.Store.meaning };
 
@@ -191,7 +191,7 @@ impl<W: Windowed, S: Store<Key = W::Key, Value = W::Value>> Store for Pile<W, S>
     fn put(&mut self, place: &Place<W::Key>, offset: u64, value: W::Value) -> Result<(), Refusal>
         requires { PileOk W.Store.ok S.Store.ok W.Store.meaning S.Store.meaning self.old }
         ensures ok { PileOk W.Store.ok S.Store.ok W.Store.meaning S.Store.meaning self.new }
-        ensures does { Put W.Key.Key.ordered (pile_meaning W.Key.Key.ordered W.Store.meaning S.Store.meaning self.old) (pile_meaning W.Key.Key.ordered W.Store.meaning S.Store.meaning self.new) place.now offset value result }
+        ensures does { Put W.Key.cmp (pile_meaning W.Key.cmp W.Store.meaning S.Store.meaning self.old) (pile_meaning W.Key.cmp W.Store.meaning S.Store.meaning self.new) place.now offset value result }
         ensures counted { Spills W.Store.meaning S.Store.meaning self.old self.new place.now.partition result }
     {
         match self.home_of(place.partition) {
@@ -215,7 +215,7 @@ impl<W: Windowed, S: Store<Key = W::Key, Value = W::Value>> Store for Pile<W, S>
     fn take(&mut self, place: &Place<W::Key>, offset: u64) -> Result<W::Value, Refusal>
         requires { PileOk W.Store.ok S.Store.ok W.Store.meaning S.Store.meaning self.old }
         ensures ok { PileOk W.Store.ok S.Store.ok W.Store.meaning S.Store.meaning self.new }
-        ensures does { Take W.Key.Key.ordered (pile_meaning W.Key.Key.ordered W.Store.meaning S.Store.meaning self.old) (pile_meaning W.Key.Key.ordered W.Store.meaning S.Store.meaning self.new) place.now offset result }
+        ensures does { Take W.Key.cmp (pile_meaning W.Key.cmp W.Store.meaning S.Store.meaning self.old) (pile_meaning W.Key.cmp W.Store.meaning S.Store.meaning self.new) place.now offset result }
         ensures same { self.new.spills ≡ self.old.spills }
     {
         match self.home_of(place.partition) {
@@ -237,7 +237,7 @@ impl<W: Windowed, S: Store<Key = W::Key, Value = W::Value>> Store for Pile<W, S>
     fn set(&mut self, place: &Place<W::Key>, offset: u64, value: W::Value) -> Result<(), Refusal>
         requires { PileOk W.Store.ok S.Store.ok W.Store.meaning S.Store.meaning self.old }
         ensures ok { PileOk W.Store.ok S.Store.ok W.Store.meaning S.Store.meaning self.new }
-        ensures does { Set W.Key.Key.ordered (pile_meaning W.Key.Key.ordered W.Store.meaning S.Store.meaning self.old) (pile_meaning W.Key.Key.ordered W.Store.meaning S.Store.meaning self.new) place.now offset value result }
+        ensures does { Set W.Key.cmp (pile_meaning W.Key.cmp W.Store.meaning S.Store.meaning self.old) (pile_meaning W.Key.cmp W.Store.meaning S.Store.meaning self.new) place.now offset value result }
         ensures same { self.new.spills ≡ self.old.spills }
     {
         match self.home_of(place.partition) {
@@ -259,7 +259,7 @@ impl<W: Windowed, S: Store<Key = W::Key, Value = W::Value>> Store for Pile<W, S>
     fn remove_run(&mut self, place: &Place<W::Key>)
         requires { PileOk W.Store.ok S.Store.ok W.Store.meaning S.Store.meaning self.old }
         ensures ok { PileOk W.Store.ok S.Store.ok W.Store.meaning S.Store.meaning self.new }
-        ensures does { Removed W.Key.Key.ordered (pile_meaning W.Key.Key.ordered W.Store.meaning S.Store.meaning self.old) (pile_meaning W.Key.Key.ordered W.Store.meaning S.Store.meaning self.new) place.now }
+        ensures does { Removed W.Key.cmp (pile_meaning W.Key.cmp W.Store.meaning S.Store.meaning self.old) (pile_meaning W.Key.cmp W.Store.meaning S.Store.meaning self.new) place.now }
         ensures same { self.new.spills ≡ self.old.spills }
     {
         match self.home_of(place.partition) {

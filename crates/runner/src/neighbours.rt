@@ -23,14 +23,14 @@ pub trait Neighbours<T: Translator> {
         book: &Book<S, T>,
         end: End,
     ) -> Result<Option<Place<T::Key>>, Fault>
-        requires { BookOk S.Store.meaning S.Store.ok T.Key.Key.ordered book.now };
+        requires { BookOk S.Store.meaning S.Store.ok T.Key.cmp book.now };
 
     // Every place, from the first on.
     fn walk<S: Store<Key = T::Key>>(
         heap: Global,
         book: &Book<S, T>,
     ) -> Result<Vec<Place<T::Key>>, Fault>
-        requires { BookOk S.Store.meaning S.Store.ok T.Key.Key.ordered book.now };
+        requires { BookOk S.Store.meaning S.Store.ok T.Key.cmp book.now };
 }
 
 // For translators that keep order.

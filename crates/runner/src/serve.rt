@@ -27,8 +27,8 @@ fn insert<K: SubKey, V: Value, S: Store<Key = K, Value = V>, T: Translator<Key =
     key: &[u8],
     word: ValueWord,
 ) -> Result<Answer<K>, Fault>
-    requires { BookOk S.Store.meaning S.Store.ok K.Key.ordered book.old }
-    ensures { BookOk S.Store.meaning S.Store.ok K.Key.ordered book.new }
+    requires { BookOk S.Store.meaning S.Store.ok K.cmp book.old }
+    ensures { BookOk S.Store.meaning S.Store.ok K.cmp book.new }
 {
     let Some(value) = V::from_word(word) else {
         return Err(Fault::Wrong(Reason::OtherValues));
@@ -44,7 +44,7 @@ fn get<K: SubKey, V: Value, S: Store<Key = K, Value = V>, T: Translator<Key = K>
     lent: usize,
     key: &[u8],
 ) -> Result<Answer<K>, Fault>
-    requires { BookOk S.Store.meaning S.Store.ok K.Key.ordered book.now }
+    requires { BookOk S.Store.meaning S.Store.ok K.cmp book.now }
 {
     let room = lent.min(slots.len());
     let len = book.get(key, &mut slots[0..room])?;
@@ -59,7 +59,7 @@ fn run_at<K: SubKey, V: Value, S: Store<Key = K, Value = V>, T: Translator<Key =
     partition: u64,
     word: &SubkeyWord,
 ) -> Result<Answer<K>, Fault>
-    requires { BookOk S.Store.meaning S.Store.ok K.Key.ordered book.now }
+    requires { BookOk S.Store.meaning S.Store.ok K.cmp book.now }
 {
     let Some(key) = K::from_word(word) else {
         return Err(Fault::Wrong(Reason::OtherKeys));
@@ -78,7 +78,7 @@ fn end_run<
     T: Translator<Key = K>,
     N: Neighbours<T>,
 >(book: &Book<S, T>, slots: &mut [V], end: End) -> Result<Answer<K>, Fault>
-    requires { BookOk S.Store.meaning S.Store.ok K.Key.ordered book.now }
+    requires { BookOk S.Store.meaning S.Store.ok K.cmp book.now }
 {
     match N::at_end(book, end)? {
         None => Ok(Answer::Nothing),
@@ -103,8 +103,8 @@ fn answer<
     lent: &mut usize,
     call: &Call,
 ) -> Result<Answer<K>, Fault>
-    requires { BookOk S.Store.meaning S.Store.ok K.Key.ordered book.old }
-    ensures { BookOk S.Store.meaning S.Store.ok K.Key.ordered book.new }
+    requires { BookOk S.Store.meaning S.Store.ok K.cmp book.old }
+    ensures { BookOk S.Store.meaning S.Store.ok K.cmp book.new }
 {
     match call {
         Call::Slots(n) => {
@@ -139,7 +139,7 @@ pub fn serve<
     from: usize,
     report: &mut Report,
 ) -> Result<usize, fmt::Error>
-    requires ok { BookOk S.Store.meaning S.Store.ok K.Key.ordered book.old }
+    requires ok { BookOk S.Store.meaning S.Store.ok K.cmp book.old }
     requires within { from ≤ length lines.now }
     ensures { IfOk result (λ n. (from ≤ n) × (n ≤ length lines.now)) }
 {

@@ -32,7 +32,7 @@ impl<'a, K: Key, V: Copy + Drop> SideTable<'a, K, V> {
         values: &'a mut [V],
         partitions: u64,
     ) -> SideTable<'a, K, V>
-        ensures ok { TableOk K.Key.ordered result }
+        ensures ok { TableOk K.cmp result }
         ensures meaning { table_meaning result ≡ opened (length keys.old) (length values.old) partitions }
         ensures memory { (result.keys.now ≡ keys.old) × (result.values.now ≡ values.old) }
     {
@@ -58,8 +58,8 @@ impl<'a, K: Key, V: Copy + Drop> SideTable<'a, K, V> {
 
     // Where the run at `place` begins, and where it ends.
     fn range(&self, place: &Place<K>) -> (usize, usize)
-        requires { TableOk K.Key.ordered self.now }
-        ensures { Ranges K.Key.ordered self.now place.now result.0 result.1 }
+        requires { TableOk K.cmp self.now }
+        ensures { Ranges K.cmp self.now place.now result.0 result.1 }
     {
         let range = run_range(&self.keys[0..self.len], place);
         (range.start, range.end)
@@ -67,8 +67,8 @@ impl<'a, K: Key, V: Copy + Drop> SideTable<'a, K, V> {
 
     // The run at `place`, as the part of the values itself.
     pub fn run(&self, place: &Place<K>) -> &[V]
-        requires { TableOk K.Key.ordered self.now }
-        ensures { result.now ≡ run_at K.Key.ordered (table_meaning self.now) place.now }
+        requires { TableOk K.cmp self.now }
+        ensures { result.now ≡ run_at K.cmp (table_meaning self.now) place.now }
     {
         values(&self.keys[0..self.len], &self.values[0..self.len], place)
     }
@@ -81,7 +81,7 @@ impl<'a, K: Key, V: Copy + Drop> Store for SideTable<'a, K, V> {
 
     ghost meaning = { table_meaning };
 
-    ghost ok = { TableOk K.Key.ordered };
+    ghost ok = { TableOk K.cmp };
 
     fn sound(&self) {}
 

@@ -10,7 +10,7 @@ use keys::{Key, Place};
 
 // How many places are in partitions below `partition`: the index where the partition starts.
 pub fn partition_start<K: Key>(places: &[Place<K>], partition: u64) -> usize
-    requires { Sorted (before (place_order K.Key.ordered)) places.now }
+    requires { Sorted (before (place_order K.cmp)) places.now }
     ensures { result ≡ count (λ x. nat_lt x.partition partition) places.now }
 {
     let mut low = 0;
@@ -29,7 +29,7 @@ pub fn partition_start<K: Key>(places: &[Place<K>], partition: u64) -> usize
 
 // How many places are in partitions up to `partition`: the index where the partition ends.
 pub fn partition_end<K: Key>(places: &[Place<K>], partition: u64) -> usize
-    requires { Sorted (before (place_order K.Key.ordered)) places.now }
+    requires { Sorted (before (place_order K.cmp)) places.now }
     ensures { result ≡ count (λ x. nat_le x.partition partition) places.now }
 {
     let mut low = 0;

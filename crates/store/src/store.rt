@@ -20,7 +20,7 @@ pub trait Store {
     // What is known of every store; it does nothing.
     fn sound(&self)
         requires { ok self.now }
-        ensures { Sound Self.Key.Key.ordered (meaning self.now) };
+        ensures { Sound Self.Key.cmp (meaning self.now) };
 
     // Puts a value in at an offset of the run at a place, making the place if it is absent.
     fn put(
@@ -31,13 +31,13 @@ pub trait Store {
     ) -> Result<(), Refusal>
         requires { ok self.old }
         ensures ok { ok self.new }
-        ensures does { Put Self.Key.Key.ordered (meaning self.old) (meaning self.new) place.now offset value result };
+        ensures does { Put Self.Key.cmp (meaning self.old) (meaning self.new) place.now offset value result };
 
     // Takes a value out, and answers it.
     fn take(&mut self, place: &Place<Self::Key>, offset: u64) -> Result<Self::Value, Refusal>
         requires { ok self.old }
         ensures ok { ok self.new }
-        ensures does { Take Self.Key.Key.ordered (meaning self.old) (meaning self.new) place.now offset result };
+        ensures does { Take Self.Key.cmp (meaning self.old) (meaning self.new) place.now offset result };
 
     // Replaces a value.
     fn set(
@@ -48,13 +48,13 @@ pub trait Store {
     ) -> Result<(), Refusal>
         requires { ok self.old }
         ensures ok { ok self.new }
-        ensures does { Set Self.Key.Key.ordered (meaning self.old) (meaning self.new) place.now offset value result };
+        ensures does { Set Self.Key.cmp (meaning self.old) (meaning self.new) place.now offset value result };
 
     // Removes the run at a place; an absent run is no fault.
     fn remove_run(&mut self, place: &Place<Self::Key>)
         requires { ok self.old }
         ensures ok { ok self.new }
-        ensures does { Removed Self.Key.Key.ordered (meaning self.old) (meaning self.new) place.now }
+        ensures does { Removed Self.Key.cmp (meaning self.old) (meaning self.new) place.now }
     {
         while self.run_len(place) > 0 {
             let _ = self.take(place, 0);
@@ -64,32 +64,32 @@ pub trait Store {
     // How many values the run at a place has.
     fn run_len(&self, place: &Place<Self::Key>) -> u64
         requires { ok self.now }
-        ensures { result ≡ length (run_at Self.Key.Key.ordered (meaning self.now) place.now) };
+        ensures { result ≡ length (run_at Self.Key.cmp (meaning self.now) place.now) };
 
     // The value at an offset of the run at a place.
     fn value_at(&self, place: &Place<Self::Key>, offset: u64) -> Option<Self::Value>
         requires { ok self.now }
-        ensures { result ≡ slice_get (run_at Self.Key.Key.ordered (meaning self.now) place.now) offset };
+        ensures { result ≡ slice_get (run_at Self.Key.cmp (meaning self.now) place.now) offset };
 
     // The least place of a partition.
     fn first_in(&self, partition: u64) -> Option<Place<Self::Key>>
         requires { ok self.now }
-        ensures { result ≡ first_in Self.Key.Key.ordered (meaning self.now) partition };
+        ensures { result ≡ first_in Self.Key.cmp (meaning self.now) partition };
 
     // The greatest place of a partition.
     fn last_in(&self, partition: u64) -> Option<Place<Self::Key>>
         requires { ok self.now }
-        ensures { result ≡ last_in Self.Key.Key.ordered (meaning self.now) partition };
+        ensures { result ≡ last_in Self.Key.cmp (meaning self.now) partition };
 
     // The least place after a place, in its partition.
     fn next_in(&self, place: &Place<Self::Key>) -> Option<Place<Self::Key>>
         requires { ok self.now }
-        ensures { result ≡ next_in Self.Key.Key.ordered (meaning self.now) place.now };
+        ensures { result ≡ next_in Self.Key.cmp (meaning self.now) place.now };
 
     // The greatest place before a place, in its partition.
     fn previous_in(&self, place: &Place<Self::Key>) -> Option<Place<Self::Key>>
         requires { ok self.now }
-        ensures { result ≡ previous_in Self.Key.Key.ordered (meaning self.now) place.now };
+        ensures { result ≡ previous_in Self.Key.cmp (meaning self.now) place.now };
 
     // How many values more a partition can take.
     fn space(&self, partition: u64) -> u64

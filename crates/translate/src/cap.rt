@@ -28,6 +28,6 @@ impl OrderedTranslator for Cap {
     ghost keeps = { λ t. cap_keeps };
 
     fn compare_translated(&self, a: &[u8], b: &[u8]) -> Ordering {
-        self.translate(a).compare(&self.translate(b))
+        self.translate(a).cmp(&self.translate(b))
     }
 }

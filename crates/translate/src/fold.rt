@@ -33,5 +33,5 @@ pub fn fold_reverses() -> Ordering
     ensures turned { result ≡ Less }
     ensures unkept { Keeps nat_cmp fold_of → ⊥ }
 {
-    Fold.translate(b"\0").compare(&Fold.translate(b""))
+    Fold.translate(b"\0").cmp(&Fold.translate(b""))
 }

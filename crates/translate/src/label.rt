@@ -30,6 +30,6 @@ impl OrderedTranslator for Labels {
     ghost keeps = { λ t. label_keeps };
 
     fn compare_translated(&self, a: &[u8], b: &[u8]) -> Ordering {
-        self.translate(a).compare(&self.translate(b))
+        self.translate(a).cmp(&self.translate(b))
     }
 }

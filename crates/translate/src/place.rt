@@ -28,8 +28,8 @@ pub fn compare_places<T: OrderedTranslator>(
     a: &[u8],
     b: &[u8],
 ) -> Ordering
-    ensures order { result ≡ place_order T.Key.ordered (place_of prefix.now.bytes (T.Translator.meaning translator.now) a.now) (place_of prefix.now.bytes (T.Translator.meaning translator.now) b.now) }
-    ensures keeps { Keeps (place_order T.Key.ordered) (place_of prefix.now.bytes (T.Translator.meaning translator.now)) }
+    ensures order { result ≡ place_order T.Key.cmp (place_of prefix.now.bytes (T.Translator.meaning translator.now) a.now) (place_of prefix.now.bytes (T.Translator.meaning translator.now) b.now) }
+    ensures keeps { Keeps (place_order T.Key.cmp) (place_of prefix.now.bytes (T.Translator.meaning translator.now)) }
 {
-    place_of(prefix, translator, a).compare(&place_of(prefix, translator, b))
+    place_of(prefix, translator, a).cmp(&place_of(prefix, translator, b))
 }

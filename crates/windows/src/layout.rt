@@ -62,8 +62,8 @@ impl Layout {
 
     // Where the run at a place begins and ends, among the cells in use of its partition.
     pub fn range<K: Key>(self, keys: &[K], lengths: &[u64], place: &Place<K>) -> Range<usize>
-        requires { Keyed K.Key.ordered keys.now lengths.now self.window self.partitions }
-        ensures { Ranged K.Key.ordered keys.now lengths.now self.window self.partitions place.now result.start result.end }
+        requires { Keyed K.cmp keys.now lengths.now self.window self.partitions }
+        ensures { Ranged K.cmp keys.now lengths.now self.window self.partitions place.now result.start result.end }
     {
         run_range(self.used(keys, lengths, place.partition), &place.key)
     }
@@ -76,8 +76,8 @@ impl Layout {
         place: &Place<K>,
         offset: u64,
     ) -> Result<(usize, usize), Refusal>
-        requires { Keyed K.Key.ordered keys.now lengths.now self.window self.partitions }
-        ensures { PutSlot K.Key.ordered keys.now lengths.now self.window self.partitions place.now offset result }
+        requires { Keyed K.cmp keys.now lengths.now self.window self.partitions }
+        ensures { PutSlot K.cmp keys.now lengths.now self.window self.partitions place.now offset result }
     {
         if self.space(lengths, place.partition) == 0 {
             return Err(Refusal::NoSpace);
@@ -98,8 +98,8 @@ impl Layout {
         place: &Place<K>,
         offset: u64,
     ) -> Result<(usize, usize), Refusal>
-        requires { Keyed K.Key.ordered keys.now lengths.now self.window self.partitions }
-        ensures { HeldSlot K.Key.ordered keys.now lengths.now self.window self.partitions place.now offset result }
+        requires { Keyed K.cmp keys.now lengths.now self.window self.partitions }
+        ensures { HeldSlot K.cmp keys.now lengths.now self.window self.partitions place.now offset result }
     {
         let Range { start, end } = self.range(keys, lengths, place);
         if offset >= (end - start) as u64 {
@@ -161,8 +161,8 @@ impl Layout {
         place: &Place<K>,
         offset: u64,
     ) -> Option<V>
-        requires { Sorts K.Key.ordered keys.now values.now lengths.now self.window self.partitions }
-        ensures { result ≡ slice_get (run_at K.Key.ordered (cells_meaning keys.now values.now lengths.now self.window self.partitions) place.now) offset }
+        requires { Sorts K.cmp keys.now values.now lengths.now self.window self.partitions }
+        ensures { result ≡ slice_get (run_at K.cmp (cells_meaning keys.now values.now lengths.now self.window self.partitions) place.now) offset }
     {
         let keys = self.used(keys, lengths, place.partition);
         let values = self.used(values, lengths, place.partition);
@@ -176,7 +176,7 @@ impl Layout {
 
     // The least place of a partition.
     pub fn first_in<K: Key>(self, keys: &[K], lengths: &[u64], partition: u64) -> Option<Place<K>>
-        requires { Keyed K.Key.ordered keys.now lengths.now self.window self.partitions }
+        requires { Keyed K.cmp keys.now lengths.now self.window self.partitions }
         ensures { result ≡ option_map (spot partition) (first_that (λ _. true) (used keys.now lengths.now self.window self.partitions partition)) }
     {
         place_at(self.used(keys, lengths, partition), partition, 0)
@@ -184,7 +184,7 @@ impl Layout {
 
     // The greatest place of a partition.
     pub fn last_in<K: Key>(self, keys: &[K], lengths: &[u64], partition: u64) -> Option<Place<K>>
-        requires { Keyed K.Key.ordered keys.now lengths.now self.window self.partitions }
+        requires { Keyed K.cmp keys.now lengths.now self.window self.partitions }
         ensures { result ≡ option_map (spot partition) (last_that (λ _. true) (used keys.now lengths.now self.window self.partitions partition)) }
     {
         let used = self.used(keys, lengths, partition);
@@ -193,8 +193,8 @@ impl Layout {
 
     // The least place after a place, in its partition.
     pub fn next_in<K: Key>(self, keys: &[K], lengths: &[u64], place: &Place<K>) -> Option<Place<K>>
-        requires { Keyed K.Key.ordered keys.now lengths.now self.window self.partitions }
-        ensures { result ≡ option_map (spot place.now.partition) (first_that (λ x. before K.Key.ordered place.now.key x) (used keys.now lengths.now self.window self.partitions place.now.partition)) }
+        requires { Keyed K.cmp keys.now lengths.now self.window self.partitions }
+        ensures { result ≡ option_map (spot place.now.partition) (first_that (λ x. before K.cmp place.now.key x) (used keys.now lengths.now self.window self.partitions place.now.partition)) }
     {
         let used = self.used(keys, lengths, place.partition);
         place_at(used, place.partition, upper_bound(used, &place.key))
@@ -207,8 +207,8 @@ impl Layout {
         lengths: &[u64],
         place: &Place<K>,
     ) -> Option<Place<K>>
-        requires { Keyed K.Key.ordered keys.now lengths.now self.window self.partitions }
-        ensures { result ≡ option_map (spot place.now.partition) (last_that (λ x. before K.Key.ordered x place.now.key) (used keys.now lengths.now self.window self.partitions place.now.partition)) }
+        requires { Keyed K.cmp keys.now lengths.now self.window self.partitions }
+        ensures { result ≡ option_map (spot place.now.partition) (last_that (λ x. before K.cmp x place.now.key) (used keys.now lengths.now self.window self.partitions place.now.partition)) }
     {
         let used = self.used(keys, lengths, place.partition);
         place_before(used, place.partition, lower_bound(used, &place.key))

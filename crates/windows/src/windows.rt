@@ -41,7 +41,7 @@ impl<'a, K: Key, V: Copy + Drop> WindowStore<'a, K, V> {
         lengths: &'a mut [u64],
         window: u64,
     ) -> WindowStore<'a, K, V>
-        ensures ok { WindowsOk K.Key.ordered result }
+        ensures ok { WindowsOk K.cmp result }
         ensures meaning { windows_meaning result ≡ opened (length keys.old) (length values.old) (length lengths.old) window }
         ensures memory { (result.keys.now ≡ keys.old) × (result.values.now ≡ values.old) }
         ensures untouched { fitting (length keys.old) (length values.old) (length lengths.old) window ≡ false → result.lengths.now ≡ lengths.old }
@@ -73,24 +73,24 @@ impl<'a, K: Key, V: Copy + Drop> WindowStore<'a, K, V> {
 
     // The run at a place, among the cells in use of its partition.
     fn range(&self, place: &Place<K>) -> Range<usize>
-        requires { WindowsOk K.Key.ordered self.now }
-        ensures { Ranged K.Key.ordered self.now.keys.now self.now.lengths.now self.now.layout.window self.now.layout.partitions place.now result.start result.end }
+        requires { WindowsOk K.cmp self.now }
+        ensures { Ranged K.cmp self.now.keys.now self.now.lengths.now self.now.layout.window self.now.layout.partitions place.now result.start result.end }
     {
         self.layout.range(self.keys, self.lengths, place)
     }
 
     // Where a put goes: how many cells of the partition are in use, and the cell among them.
     fn put_slot(&self, place: &Place<K>, offset: u64) -> Result<(usize, usize), Refusal>
-        requires { WindowsOk K.Key.ordered self.now }
-        ensures { PutSlot K.Key.ordered self.now.keys.now self.now.lengths.now self.now.layout.window self.now.layout.partitions place.now offset result }
+        requires { WindowsOk K.cmp self.now }
+        ensures { PutSlot K.cmp self.now.keys.now self.now.lengths.now self.now.layout.window self.now.layout.partitions place.now offset result }
     {
         self.layout.put_slot(self.keys, self.lengths, place, offset)
     }
 
     // Where a value is held: how many cells of the partition are in use, and the cell among them.
     fn held_slot(&self, place: &Place<K>, offset: u64) -> Result<(usize, usize), Refusal>
-        requires { WindowsOk K.Key.ordered self.now }
-        ensures { HeldSlot K.Key.ordered self.now.keys.now self.now.lengths.now self.now.layout.window self.now.layout.partitions place.now offset result }
+        requires { WindowsOk K.cmp self.now }
+        ensures { HeldSlot K.cmp self.now.keys.now self.now.lengths.now self.now.layout.window self.now.layout.partitions place.now offset result }
     {
         self.layout
             .held_slot(self.keys, self.lengths, place, offset)
@@ -98,7 +98,7 @@ impl<'a, K: Key, V: Copy + Drop> WindowStore<'a, K, V> {
 
     // The value in a cell in use of a partition.
     fn cell(&self, partition: u64, idx: usize) -> V
-        requires ok { WindowsOk K.Key.ordered self.now }
+        requires ok { WindowsOk K.cmp self.now }
         requires within { idx < length (used self.now.values.now self.now.lengths.now self.now.layout.window self.now.layout.partitions partition) }
         ensures { result ≡ slice_index_or (used self.now.values.now self.now.lengths.now self.now.layout.window self.now.layout.partitions partition) idx result }
     {
@@ -113,7 +113,7 @@ impl<'a, K: Key, V: Copy + Drop> Store for WindowStore<'a, K, V> {
 
     ghost meaning = { windows_meaning };
 
-    ghost ok = { WindowsOk K.Key.ordered };
+    ghost ok = { WindowsOk K.cmp };
 
     fn sound(&self) {}
 

@@ -9,7 +9,7 @@ use Rattle.moves.proofs.copy_run.Goals as goal
 
 pub put_sure-requires : goal.put_sure-requires
 put_sure-requires g c =
-    let xs = run_at g.W.Key.Key.ordered (g.W.Store.meaning c.args.from.now) c.args.place.now in
+    let xs = run_at g.W.Key.Ord.cmp (g.W.Store.meaning c.args.from.now) c.args.place.now in
     let a = c.loop-value.invariant.2 in
     let l = nth_inside xs c.loop-value.i c.in-Some.value c.in-Some.ensures in
     record {
@@ -20,19 +20,19 @@ put_sure-requires g c =
 
 pub overflow_add-i : goal.overflow_add-i
 overflow_add-i g c =
-    let xs = run_at g.W.Key.Key.ordered (g.W.Store.meaning c.args.from.now) c.args.place.now in
+    let xs = run_at g.W.Key.Ord.cmp (g.W.Store.meaning c.args.from.now) c.args.place.now in
     let l = nth_inside xs c.loop-value.i c.in-Some.value c.in-Some.ensures in
     omega (arith, l, c.requires.roomy, c.sound.ensures.space_fits c.args.place.now.partition)
 
 pub loop-value-smaller : goal.loop-value-smaller
 loop-value-smaller g c =
-    let xs = run_at g.W.Key.Key.ordered (g.W.Store.meaning c.args.from.now) c.args.place.now in
+    let xs = run_at g.W.Key.Ord.cmp (g.W.Store.meaning c.args.from.now) c.args.place.now in
     let l = nth_inside xs c.loop-value.i c.in-Some.value c.in-Some.ensures in
     omega (arith, l)
 
 pub loop-value-preserved : goal.loop-value-preserved
 loop-value-preserved g c =
-    let cmp = g.W.Key.Key.ordered in
+    let cmp = g.W.Key.Ord.cmp in
     let s = g.S.Store.meaning in
     let p = c.args.place.now in
     let v = c.in-Some.value in
@@ -51,7 +51,7 @@ loop-value-preserved g c =
 
 pub returns : goal.returns
 returns g c =
-    let cmp = g.W.Key.Key.ordered in
+    let cmp = g.W.Key.Ord.cmp in
     let s = g.S.Store.meaning in
     let p = c.args.place.now in
     let i = c.loop-value.i in

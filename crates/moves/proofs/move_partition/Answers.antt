@@ -7,7 +7,7 @@ use Rattle.moves.proofs.move_partition.Goals as goal
 
 pub loop-place-init : goal.loop-place-init
 loop-place-init g c =
-    let cmp = g.W.Key.Key.ordered in
+    let cmp = g.W.Key.Ord.cmp in
     let o = total (places_lawful cmp g.met.W.Key.Key.lawful) in (
       c.requires.windows,
       c.requires.side,
@@ -16,9 +16,9 @@ loop-place-init g c =
     )
 
 -- what one turn does
-turn : (g : _) (c : goal.After-sound-in-Some g) → Moving g.W.Key.Key.ordered (g.W.Store.meaning c.args.windows.now) (g.S.Store.meaning c.args.side.now) (g.W.Store.meaning c.remove_run.new.self) (g.S.Store.meaning c.copy_run.new.to) c.args.partition × (values_in (g.W.Store.meaning c.remove_run.new.self) c.args.partition < values_in (g.W.Store.meaning c.loop-place.windows) c.args.partition)
+turn : (g : _) (c : goal.After-sound-in-Some g) → Moving g.W.Key.Ord.cmp (g.W.Store.meaning c.args.windows.now) (g.S.Store.meaning c.args.side.now) (g.W.Store.meaning c.remove_run.new.self) (g.S.Store.meaning c.copy_run.new.to) c.args.partition × (values_in (g.W.Store.meaning c.remove_run.new.self) c.args.partition < values_in (g.W.Store.meaning c.loop-place.windows) c.args.partition)
 turn g c =
-    let cmp = g.W.Key.Key.ordered in
+    let cmp = g.W.Key.Ord.cmp in
     let o = total (places_lawful cmp g.met.W.Key.Key.lawful) in
     let w = g.W.Store.meaning in
     let s = g.S.Store.meaning in
@@ -28,7 +28,7 @@ turn g c =
 
 pub copy_run-requires : goal.copy_run-requires
 copy_run-requires g c =
-    let cmp = g.W.Key.Key.ordered in
+    let cmp = g.W.Key.Ord.cmp in
     let o = total (places_lawful cmp g.met.W.Key.Key.lawful) in
     let v = c.loop-place.invariant.3 in
     let at = (first-place cmp o (g.W.Store.meaning c.loop-place.windows) c.args.partition c.in-Some.place c.in-Some.ensures).0 in
@@ -47,7 +47,7 @@ loop-place-preserved g c = (c.remove_run.ensures.ok, c.copy_run.ensures.ok, c.so
 
 pub returns : goal.returns
 returns g c =
-    let cmp = g.W.Key.Key.ordered in
+    let cmp = g.W.Key.Ord.cmp in
     let o = total (places_lawful cmp g.met.W.Key.Key.lawful) in
     let m1 = g.W.Store.meaning c.loop-place.windows in
     record {

@@ -6,7 +6,7 @@ abbrev pub invariant-loop-place : goal.invariant-loop-place
 invariant-loop-place g l =
     let w = g.W.Store in
     let s = g.S.Store in
-    let cmp = g.W.Key.Key.ordered in
+    let cmp = g.W.Key.Ord.cmp in
     w.ok l.windows × s.ok l.side × Sound cmp (w.meaning l.windows)
     × Moving cmp (w.meaning l.initial.windows) (s.meaning l.initial.side) (w.meaning l.windows) (s.meaning l.side) l.partition
 

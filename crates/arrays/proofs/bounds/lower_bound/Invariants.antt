@@ -5,7 +5,7 @@ use Rattle.arrays.proofs.bounds.lower_bound.Given as goal
 
 abbrev pub invariant-loop-low : goal.invariant-loop-low
 invariant-loop-low g l =
-    let n = below (before g.K.Key.ordered) l.keys l.key in
+    let n = below (before g.K.Ord.cmp) l.keys l.key in
     (l.low ≤ n) × (n ≤ l.high) × (l.high ≤ length l.keys)
 
 abbrev pub decreases-loop-low : goal.decreases-loop-low

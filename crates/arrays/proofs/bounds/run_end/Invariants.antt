@@ -4,7 +4,7 @@ use Rattle.contents.specs.Sorted.{upto}
 use Rattle.arrays.proofs.bounds.run_end.Given as goal
 
 abbrev pub invariant-loop-end : goal.invariant-loop-end
-invariant-loop-end g l = l.end ≤ upto (before g.K.Key.ordered) l.keys l.key
+invariant-loop-end g l = l.end ≤ upto (before g.K.Ord.cmp) l.keys l.key
 
 abbrev pub decreases-loop-end : goal.decreases-loop-end
 decreases-loop-end g l = length l.keys - l.end

@@ -21,11 +21,11 @@ pub returns : goal.returns
 returns g c =
     let ks = c.args.keys.now in
     let x = c.index-keys-idx.result in
-    let is : c.loop-start.start ≡ below (before g.K.Key.ordered) ks x =
+    let is : c.loop-start.start ≡ below (before g.K.Ord.cmp) ks x =
     elim c.loop-start-test.branch [
       | then-loop-start-test+else-not-less w ↦
           let past = less (total g.met.K.Key.lawful) ks c.requires.sorted (c.loop-start.start - 1) w.index-keys-start.result (omega arith) w.index-keys-start.is x w.if-not-less.ensures in
           omega arith
       | else-loop-start-test w ↦ omega arith
     ] in
-    record { start = at-any (below (before g.K.Key.ordered) ks) ks c.args.idx x c.loop-start.start c.requires.within c.index-keys-idx.is is; end = refl; ordered = omega arith; within = omega arith }
+    record { start = at-any (below (before g.K.Ord.cmp) ks) ks c.args.idx x c.loop-start.start c.requires.within c.index-keys-idx.is is; end = refl; ordered = omega arith; within = omega arith }

@@ -22,7 +22,7 @@ returns g c =
     let all = (upto-parts o ks x c.requires.sorted).within in
     record {
       start = refl;
-      end = at-any (upto (before g.K.Key.ordered) ks) ks c.args.idx x c.run_end-end.result c.requires.within c.index-keys-idx.is c.run_end-end.ensures;
+      end = at-any (upto (before g.K.Ord.cmp) ks) ks c.args.idx x c.run_end-end.result c.requires.within c.index-keys-idx.is c.run_end-end.ensures;
       ordered = omega arith;
       within = omega arith;
     }

@@ -5,7 +5,7 @@ use Rattle.arrays.proofs.bounds.upper_bound.Given as goal
 
 abbrev pub invariant-loop-low : goal.invariant-loop-low
 invariant-loop-low g l =
-    let n = upto (before g.K.Key.ordered) l.keys l.key in
+    let n = upto (before g.K.Ord.cmp) l.keys l.key in
     (l.low ≤ n) × (n ≤ l.high) × (l.high ≤ length l.keys)
 
 abbrev pub decreases-loop-low : goal.decreases-loop-low

@@ -6,7 +6,7 @@ use Rattle.pile.proofs.Pile.home_of.Goals as goal
 
 pub returns-in-Some : goal.returns-in-Some
 returns-in-Some g c =
-    let cmp = g.W.Key.Key.ordered in
+    let cmp = g.W.Key.Ord.cmp in
     let o = total (places_lawful cmp g.met.W.Key.Key.lawful) in
     let n = g.S.Store.meaning c.args.self.now.side in
     let h = first-place cmp o n c.args.partition c.in-Some.field-0 c.in-Some.ensures in (
@@ -16,7 +16,7 @@ returns-in-Some g c =
 
 pub returns-in-None : goal.returns-in-None
 returns-in-None g c =
-    let cmp = g.W.Key.Key.ordered in
+    let cmp = g.W.Key.Ord.cmp in
     let o = total (places_lawful cmp g.met.W.Key.Key.lawful) in (
       record { is_live = c.if-not-self.false; known = c.known.ensures; apiece = c.requires.apiece c.if-not-self.false },
       no_place cmp o (g.S.Store.meaning c.args.self.now.side) c.args.partition c.in-None.ensures,

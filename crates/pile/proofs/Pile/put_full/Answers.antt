@@ -10,7 +10,7 @@ use Rattle.pile.proofs.Pile.put_full.Goals as goal
 
 pub returns-then-run_len-offset : goal.returns-then-run_len-offset
 returns-then-run_len-offset g c =
-    let cmp = g.W.Key.Key.ordered in
+    let cmp = g.W.Key.Ord.cmp in
     let o = total (places_lawful cmp g.met.W.Key.Key.lawful) in
     let m = g.W.Store.meaning c.args.self.now.windows in
     let n = g.S.Store.meaning c.args.self.now.side in
@@ -25,7 +25,7 @@ returns-then-run_len-offset g c =
 
 pub returns : goal.returns
 returns g c =
-    let cmp = g.W.Key.Key.ordered in
+    let cmp = g.W.Key.Ord.cmp in
     let o = total (places_lawful cmp g.met.W.Key.Key.lawful) in
     let m = g.W.Store.meaning c.args.self.now.windows in
     let n = g.S.Store.meaning c.args.self.now.side in

@@ -10,7 +10,7 @@ use Rattle.pile.proofs.Pile.put_window.Goals.{else-space-eq0-via-then-space-eq0+
 
 pub returns-in-Err : goal.returns-in-Err
 returns-in-Err g c =
-    let cmp = g.W.Key.Key.ordered in
+    let cmp = g.W.Key.Ord.cmp in
     let o = total (places_lawful cmp g.met.W.Key.Key.lawful) in
     let m = g.W.Store.meaning c.args.self.now.windows in
     let n = g.S.Store.meaning c.args.self.now.side in
@@ -24,7 +24,7 @@ returns-in-Err g c =
 
 pub returns-then-space-window : goal.returns-then-space-window
 returns-then-space-window g c =
-    let cmp = g.W.Key.Key.ordered in
+    let cmp = g.W.Key.Ord.cmp in
     let o = total (places_lawful cmp g.met.W.Key.Key.lawful) in
     let m = g.W.Store.meaning c.args.self.now.windows in
     let n = g.S.Store.meaning c.args.self.now.side in
@@ -60,7 +60,7 @@ returns-then-space-window g c =
 
 pub returns-else-space-eq0 : goal.returns-else-space-eq0
 returns-else-space-eq0 g c =
-    let cmp = g.W.Key.Key.ordered in
+    let cmp = g.W.Key.Ord.cmp in
     let o = total (places_lawful cmp g.met.W.Key.Key.lawful) in
     let m = g.W.Store.meaning c.args.self.now.windows in
     let n = g.S.Store.meaning c.args.self.now.side in

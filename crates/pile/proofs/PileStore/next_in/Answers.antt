@@ -8,7 +8,7 @@ use Rattle.pile.proofs.PileStore.next_in.Goals as goal
 
 pub returns-in-Window : goal.returns-in-Window
 returns-in-Window g c =
-    let cmp = g.W.Key.Key.ordered in
+    let cmp = g.W.Key.Ord.cmp in
     let o = total (places_lawful cmp g.met.W.Key.Key.lawful) in
     let m = g.W.Store.meaning c.args.self.now.windows in
     let n = g.S.Store.meaning c.args.self.now.side in
@@ -17,7 +17,7 @@ returns-in-Window g c =
 
 pub returns-in-Side : goal.returns-in-Side
 returns-in-Side g c =
-    let cmp = g.W.Key.Key.ordered in
+    let cmp = g.W.Key.Ord.cmp in
     let o = total (places_lawful cmp g.met.W.Key.Key.lawful) in
     let m = g.W.Store.meaning c.args.self.now.windows in
     let n = g.S.Store.meaning c.args.self.now.side in

@@ -5,7 +5,7 @@ use Rattle.pile.proofs.PileStore.sound.Goals as goal
 
 pub returns : goal.returns
 returns g c =
-    let cmp = g.W.Key.Key.ordered in
+    let cmp = g.W.Key.Ord.cmp in
     let o = total (places_lawful cmp g.met.W.Key.Key.lawful) in
     let m = g.W.Store.meaning c.args.self.now.windows in
     let n = g.S.Store.meaning c.args.self.now.side in

@@ -8,5 +8,5 @@ returns g c =
     let b = c.args.self.now in
     record {
       place = (c.in_ok-opened.ensures.0, first-all (g.S.Store.meaning b.store) c.first_from.result c.first_from.ensures);
-      keeps = place_keeps g.S.Key.Key.ordered (bytes b.prefix) (g.T.Translator.meaning b.translator) (g.met.T.OrderedTranslator.keeps b.translator);
+      keeps = place_keeps g.S.Key.Ord.cmp (bytes b.prefix) (g.T.Translator.meaning b.translator) (g.met.T.OrderedTranslator.keeps b.translator);
     }

@@ -11,7 +11,7 @@ use Rattle.windows.proofs.layout.Layout.next_in.Goals as goal
 pub returns : goal.returns
 returns g c =
     let p = c.args.place.now in
-    let lt = before g.K.Key.ordered in
+    let lt = before g.K.Ord.cmp in
     c.place_at.ensures
     ∙ ap (λ i. option_map (spot p.partition) (slice_get c.used-used.result.now i)) c.upper_bound.ensures
     ∙ ap (λ xs. option_map (spot p.partition) (slice_get xs (upto lt xs p.key))) c.used-used.ensures

@@ -10,7 +10,7 @@ use Rattle.windows.proofs.layout.Layout.previous_in.Goals as goal
 pub returns : goal.returns
 returns g c =
     let p = c.args.place.now in
-    let lt = before g.K.Key.ordered in
+    let lt = before g.K.Ord.cmp in
     c.place_before.ensures
     ∙ ap (λ i. option_map (spot p.partition) (ahead c.used-used.result.now i)) c.lower_bound.ensures
     ∙ ap (λ xs. option_map (spot p.partition) (ahead xs (below lt xs p.key))) c.used-used.ensures

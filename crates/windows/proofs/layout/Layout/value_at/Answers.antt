@@ -11,7 +11,7 @@ values-run-requires g c =
     let y = c.args.self in
     let q = c.args.place.now.partition in
     record {
-      sorted = subst (Sorted (before g.K.Key.ordered)) (sym c.used-keys.ensures) (c.requires.keys.sorted q);
+      sorted = subst (Sorted (before g.K.Ord.cmp)) (sym c.used-keys.ensures) (c.requires.keys.sorted q);
       alongside =
           ap length c.used-keys.ensures
           ∙ along g.met.K.Key.lawful c.args.keys.now c.args.values.now c.args.lengths.now y.window y.partitions c.requires q

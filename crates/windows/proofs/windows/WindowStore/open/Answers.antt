@@ -12,12 +12,12 @@ returns-then-fitting g c =
     let zero : ms ≡ replicate (length ns) 0 = c.fill.ensures.after (λ y e. e) in
     let h : fitting (length c.args.keys.now) (length c.args.values.now) (length ns) c.args.window ≡ true = sym c.if-fitting.ensures in
     let d =
-    opens g.K.Key.ordered c.args.keys.now c.args.values.now ns c.args.window ms c.fill.ensures.len (omega arith)
+    opens g.K.Ord.cmp c.args.keys.now c.args.values.now ns c.args.window ms c.fill.ensures.len (omega arith)
     (λ q l. ap (λ xs. get_or xs q 0) zero ∙ get_or-replicate (length ns) q 0 0 l) h in
     record { ok = d.0; meaning = d.1; memory = (refl, refl); untouched = λ z. absurd (both_ways _ z h) }
 
 pub returns-else-fitting : goal.returns-else-fitting
 returns-else-fitting g c =
     let h : fitting (length c.args.keys.now) (length c.args.values.now) (length c.args.lengths.now) c.args.window ≡ false = sym c.if-fitting.ensures in
-    let d = opens_void g.K.Key.ordered c.args.keys.now c.args.values.now c.args.lengths.now c.args.window h in
+    let d = opens_void g.K.Ord.cmp c.args.keys.now c.args.values.now c.args.lengths.now c.args.window h in
     record { ok = d.0; meaning = d.1; memory = (refl, refl); untouched = λ z. refl }
