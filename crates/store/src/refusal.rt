@@ -3,12 +3,12 @@ ghost use Rattle.std.specs.Prelude.{◌≡◌};
 ghost use Rattle.store.specs.Refusals.{number};
 
 // Why a call is refused; a refused call leaves everything as it was.
-#[derive(Clone, Copy)]
+#[derive(Clone, Copy, Debug, PartialEq, Eq)]
 pub enum Refusal {
-    Unsound,
-    NoSpace,
-    FewSlots,
-    PastEnd,
+    Unsound = 1,
+    NoSpace = 6,
+    FewSlots = 8,
+    PastEnd = 9,
 }
 
 impl Refusal {
@@ -16,11 +16,6 @@ impl Refusal {
     pub fn code(self) -> u64
         ensures { result ≡ number self }
     {
-        match self {
-            Refusal::Unsound => 1,
-            Refusal::NoSpace => 6,
-            Refusal::FewSlots => 8,
-            Refusal::PastEnd => 9,
-        }
+        self as u64
     }
 }

@@ -7,20 +7,13 @@ ghost use Rattle.store.specs.Meaning.{Meaning, Sound, Put, Take, Set, Removed, r
 use crate::refusal::Refusal;
 use keys::{Key, Place};
 
-// A store holds a run of values at each place. Every call asks `ok`, which opening gives and every call gives back.
+// A store holds a run of values at each place.
 pub trait Store {
     type Key: Key;
 
     type Value: Copy + Drop;
 
     ghost meaning: { Self → Meaning Self.Key Self.Value };
-
-    ghost ok: { Self → Type 0 };
-
-    // What is known of every store; it does nothing.
-    fn sound(&self)
-        requires { ok self.now }
-        ensures { Sound Self.Key.cmp (meaning self.now) };
 
     // Puts a value in at an offset of the run at a place, making the place if it is absent.
     fn put(
@@ -29,15 +22,11 @@ pub trait Store {
         offset: u64,
         value: Self::Value,
     ) -> Result<(), Refusal>
-        requires { ok self.old }
-        ensures ok { ok self.new }
-        ensures does { Put Self.Key.cmp (meaning self.old) (meaning self.new) place.now offset value result };
+        ensures { Put Self.Key.cmp (meaning self.old) (meaning self.new) place.now offset value result };
 
     // Takes a value out, and answers it.
     fn take(&mut self, place: &Place<Self::Key>, offset: u64) -> Result<Self::Value, Refusal>
-        requires { ok self.old }
-        ensures ok { ok self.new }
-        ensures does { Take Self.Key.cmp (meaning self.old) (meaning self.new) place.now offset result };
+        ensures { Take Self.Key.cmp (meaning self.old) (meaning self.new) place.now offset result };
 
     // Replaces a value.
     fn set(
@@ -46,15 +35,11 @@ pub trait Store {
         offset: u64,
         value: Self::Value,
     ) -> Result<(), Refusal>
-        requires { ok self.old }
-        ensures ok { ok self.new }
-        ensures does { Set Self.Key.cmp (meaning self.old) (meaning self.new) place.now offset value result };
+        ensures { Set Self.Key.cmp (meaning self.old) (meaning self.new) place.now offset value result };
 
     // Removes the run at a place; an absent run is no fault.
     fn remove_run(&mut self, place: &Place<Self::Key>)
-        requires { ok self.old }
-        ensures ok { ok self.new }
-        ensures does { Removed Self.Key.cmp (meaning self.old) (meaning self.new) place.now }
+        ensures { Removed Self.Key.cmp (meaning self.old) (meaning self.new) place.now }
     {
         while self.run_len(place) > 0 {
             let _ = self.take(place, 0);
@@ -63,60 +48,57 @@ pub trait Store {
 
     // How many values the run at a place has.
     fn run_len(&self, place: &Place<Self::Key>) -> u64
-        requires { ok self.now }
         ensures { result ≡ length (run_at Self.Key.cmp (meaning self.now) place.now) };
 
     // The value at an offset of the run at a place.
     fn value_at(&self, place: &Place<Self::Key>, offset: u64) -> Option<Self::Value>
-        requires { ok self.now }
         ensures { result ≡ slice_get (run_at Self.Key.cmp (meaning self.now) place.now) offset };
 
     // The least place of a partition.
     fn first_in(&self, partition: u64) -> Option<Place<Self::Key>>
-        requires { ok self.now }
         ensures { result ≡ first_in Self.Key.cmp (meaning self.now) partition };
 
     // The greatest place of a partition.
     fn last_in(&self, partition: u64) -> Option<Place<Self::Key>>
-        requires { ok self.now }
         ensures { result ≡ last_in Self.Key.cmp (meaning self.now) partition };
 
     // The least place after a place, in its partition.
     fn next_in(&self, place: &Place<Self::Key>) -> Option<Place<Self::Key>>
-        requires { ok self.now }
         ensures { result ≡ next_in Self.Key.cmp (meaning self.now) place.now };
 
     // The greatest place before a place, in its partition.
     fn previous_in(&self, place: &Place<Self::Key>) -> Option<Place<Self::Key>>
-        requires { ok self.now }
         ensures { result ≡ previous_in Self.Key.cmp (meaning self.now) place.now };
 
     // How many values more a partition can take.
     fn space(&self, partition: u64) -> u64
-        requires { ok self.now }
         ensures { result ≡ (meaning self.now).space partition };
 
     // How many partitions there are; their numbers are below.
     fn partition_count(&self) -> u64
-        requires { ok self.now }
         ensures { result ≡ (meaning self.now).partitions };
 
     // How many values the store takes for sure.
     fn assured_number(&self) -> u64
-        requires { ok self.now }
         ensures { result ≡ (meaning self.now).assured };
 
     // Whether no value is held.
     fn is_empty(&self) -> bool
-        requires { ok self.now }
         ensures { result ≡ none (meaning self.now).contents };
+
+    // What holds of every store.
+    ghost sound: { (s : Self) → Sound Self.Key.cmp (meaning s) };
 }
 
-// A store whose partitions have a window of cells each.
+// A store whose partitions have a window of cells each: as many as its assured number.
 pub trait Windowed: Store {
     // The cells of a window.
     fn window(&self) -> u64
-        requires { Self.Store.ok self.now }
-        ensures size { result ≡ (Self.Store.meaning self.now).assured }
-        ensures windows { Windows (Self.Store.meaning self.now) };
+        ensures { result ≡ (Self.Store.meaning self.now).assured }
+    {
+        self.assured_number()
+    }
+
+    // Each partition's space and values make a window.
+    ghost windows: { (s : Self) → Windows (Self.Store.meaning s) };
 }

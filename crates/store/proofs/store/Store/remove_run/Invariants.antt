@@ -5,7 +5,7 @@ use Rattle.store.proofs.store.Store.remove_run.Given as goal
 
 abbrev pub invariant-loop-self : goal.invariant-loop-self
 invariant-loop-self g l =
-    g.Self.Store.ok l.self × Thins g.Self.Key.Ord.cmp (g.Self.Store.meaning l.initial.self) (g.Self.Store.meaning l.self) l.place
+    Thins g.Self.Key.Ord.cmp (g.Self.Store.meaning l.initial.self) (g.Self.Store.meaning l.self) l.place
 
 abbrev pub decreases-loop-self : goal.decreases-loop-self
 decreases-loop-self g l = length (run_at g.Self.Key.Ord.cmp (g.Self.Store.meaning l.self) l.place)
