@@ -1,8 +1,0 @@
-pub mod Alongside
-pub mod Gaps
-pub mod Stacked
-pub mod Used
-pub mod Nearby
-pub mod Steps
-pub mod Opens
-pub mod Props

@@ -1,7 +1,6 @@
 // Stores whose partitions have a window of cells each.
 #![tactic(auto)]
 
-mod layout;
 mod pocket;
 mod windows;
 

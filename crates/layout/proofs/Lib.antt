@@ -1,0 +1,7 @@
+pub mod Alongside
+pub mod Gaps
+pub mod Stacked
+pub mod Used
+pub mod Nearby
+pub mod Steps
+pub mod Opens

@@ -1,7 +1,0 @@
-use Rattle.std.proofs.Common.{◌∙◌}
-use Rattle.keys.specs.Laws.{numbers_lawful}
-use Rattle.windows.proofs.Steps.{previous-f}
-use Rattle.windows.proofs.pocket.PocketStore.previous_in.Goals as goal
-
-pub returns : goal.returns
-returns c = let t = c.args.self.now in c.previous_in.ensures ∙ previous-f numbers_lawful t.keys t.values t.lengths 4 256 c.requires c.args.place.now

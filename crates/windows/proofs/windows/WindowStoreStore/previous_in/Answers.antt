@@ -1,6 +1,0 @@
-use Rattle.std.proofs.Common.{◌∙◌}
-use Rattle.windows.proofs.Steps.{previous-f}
-use Rattle.windows.proofs.windows.WindowStoreStore.previous_in.Goals as goal
-
-pub returns : goal.returns
-returns g c = let t = c.args.self.now in c.previous_in.ensures ∙ previous-f g.met.K.Key.lawful t.keys.now t.values.now t.lengths.now t.layout.window t.layout.partitions c.requires c.args.place.now

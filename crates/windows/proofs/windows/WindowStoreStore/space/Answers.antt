@@ -1,0 +1,5 @@
+use Rattle.std.proofs.Common.{ap, ◌∙◌}
+use Rattle.windows.proofs.windows.WindowStoreStore.space.Goals as goal
+
+pub returns : goal.returns
+returns g c = c.space.ensures ∙ ap (λ m. m.space c.args.partition) c.cells.ensures
