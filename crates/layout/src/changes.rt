@@ -3,6 +3,7 @@ ghost use Rattle.layout.specs.Windows.{cells_meaning, Sorts};
 ghost use Rattle.store.specs.Meaning.{Put, Take, Set, Removed};
 
 use crate::layout::Layout;
+use arrays::value_at;
 use keys::{Key, Place};
 use std::ops::Range;
 use store::Refusal;
@@ -45,7 +46,7 @@ impl Layout {
     {
         let q = place.partition;
         let (len, at) = self.held_slot(keys, lengths, place, offset)?;
-        let value = self.used(values, lengths, q)[at];
+        let value = value_at(self.used(values, lengths, q), at);
         self.remove(keys, q, len, at, at + 1);
         self.remove(values, q, len, at, at + 1);
         lengths[q as usize] = len as u64 - 1;

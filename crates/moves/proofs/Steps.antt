@@ -21,16 +21,6 @@ take-suc_nth (y ∷ ys) (suc i) x e = ap (λ zs. y ∷ zs) (take-suc_nth ys i x 
 pub take_nth : {X : Type 0} (xs : List X) (i : ℕ) (x : X) → Some x ≡ slice_get xs i → take (i + 1) xs ≡ take i xs ++ (x ∷ [])
 take_nth xs i x e = rw add-one (take-suc_nth xs i x e)
 
-pub nth_inside : {X : Type 0} (xs : List X) (i : ℕ) (x : X) → Some x ≡ slice_get xs i → i < length xs
-nth_inside [] i x e = let z : ◌≡◌ {A = ℕ} 0 1 = cc in absurd (omega arith)
-nth_inside (y ∷ ys) zero x e = omega arith
-nth_inside (y ∷ ys) (suc i) x e = omega (arith, nth_inside ys i x e)
-
-pub nth-none : {X : Type 0} (xs : List X) (i : ℕ) → None ≡ slice_get xs i → length xs ≤ i
-nth-none [] i e = omega arith
-nth-none (y ∷ ys) zero e = let z : ◌≡◌ {A = ℕ} 0 1 = cc in absurd (omega arith)
-nth-none (y ∷ ys) (suc i) e = omega (arith, nth-none ys i e)
-
 insert-end : {X : Type 0} (xs : List X) (x : X) → insert xs (length xs) x ≡ xs ++ (x ∷ [])
 insert-end xs x = rw (take-length, drop-length)
 

@@ -2,28 +2,22 @@
 #![tactic(auto)]
 
 ghost use Rattle.std.specs.Prelude.{◌≡◌, ◌<◌, ◌≤◌, length};
-ghost use Rattle.store.specs.Meaning.{Sound, PutDone, run_at, values_in};
+ghost use Rattle.store.specs.Meaning.{PutDone, run_at, values_in};
 ghost use Rattle.moves.specs.Moving.{Appended, Moved};
 
 use keys::Place;
 use store::{Store, Windowed};
 
-// A put that cannot be refused, with what is known of the store before and after.
+// A put that cannot be refused.
 pub fn put_sure<S: Store>(side: &mut S, place: &Place<S::Key>, offset: u64, value: S::Value)
-    requires ok { S.Store.ok side.old }
     requires roomy { 0 < (S.Store.meaning side.old).space place.now.partition }
     requires inside { offset ≤ length (run_at S.Key.cmp (S.Store.meaning side.old) place.now) }
-    ensures ok { S.Store.ok side.new }
-    ensures does { PutDone S.Key.cmp (S.Store.meaning side.old) (S.Store.meaning side.new) place.now offset value }
-    ensures before { Sound S.Key.cmp (S.Store.meaning side.old) }
-    ensures after { Sound S.Key.cmp (S.Store.meaning side.new) }
+    ensures { PutDone S.Key.cmp (S.Store.meaning side.old) (S.Store.meaning side.new) place.now offset value }
 {
-    side.sound();
     match side.put(place, offset, value) {
-        Ok(_) => {}
+        Ok(()) => {}
         Err(_) => unreachable(),
     }
-    side.sound();
 }
 
 // Puts each value of a run of one store at the end of the other's run at that place.
@@ -32,19 +26,17 @@ pub fn copy_run<W: Store, S: Store<Key = W::Key, Value = W::Value>>(
     to: &mut S,
     place: &Place<W::Key>,
 )
-    requires from { W.Store.ok from.now }
-    requires ok { S.Store.ok to.old }
-    requires roomy { length (run_at W.Key.cmp (W.Store.meaning from.now) place.now) ≤ (S.Store.meaning to.old).space place.now.partition }
-    ensures ok { S.Store.ok to.new }
-    ensures does { Appended W.Key.cmp (S.Store.meaning to.old) (S.Store.meaning to.new) place.now (run_at W.Key.cmp (W.Store.meaning from.now) place.now) }
-    ensures after { Sound W.Key.cmp (S.Store.meaning to.new) }
+    requires { length (run_at W.Key.cmp (W.Store.meaning from.now) place.now) ≤ (S.Store.meaning to.old).space place.now.partition }
+    ensures { Appended W.Key.cmp (S.Store.meaning to.old) (S.Store.meaning to.new) place.now (run_at W.Key.cmp (W.Store.meaning from.now) place.now) }
 {
-    to.sound();
-    let mut i = 0;
-    while let Some(value) = from.value_at(place, i) {
-        let end = to.run_len(place);
-        put_sure(to, place, end, value);
-        i += 1;
+    for i in 0..from.run_len(place) {
+        match from.value_at(place, i) {
+            Some(value) => {
+                let end = to.run_len(place);
+                put_sure(to, place, end, value);
+            }
+            None => unreachable(),
+        }
     }
 }
 
@@ -54,18 +46,12 @@ pub fn move_partition<W: Windowed, S: Store<Key = W::Key, Value = W::Value>>(
     side: &mut S,
     partition: u64,
 )
-    requires windows { W.Store.ok windows.old }
-    requires side { S.Store.ok side.old }
     requires apart { values_in (S.Store.meaning side.old) partition ≡ 0 }
     requires roomy { values_in (W.Store.meaning windows.old) partition ≤ (S.Store.meaning side.old).space partition }
-    ensures windows { W.Store.ok windows.new }
-    ensures side { S.Store.ok side.new }
-    ensures moved { Moved W.Key.cmp (W.Store.meaning windows.old) (S.Store.meaning side.old) (W.Store.meaning windows.new) (S.Store.meaning side.new) partition }
+    ensures { Moved W.Key.cmp (W.Store.meaning windows.old) (S.Store.meaning side.old) (W.Store.meaning windows.new) (S.Store.meaning side.new) partition }
 {
-    windows.sound();
     while let Some(place) = windows.first_in(partition) {
         copy_run(windows, side, &place);
         windows.remove_run(&place);
-        windows.sound();
     }
 }

@@ -1,18 +1,12 @@
 -- Where the calls at a partition go, and what is known there. Assumes nothing.
 use Rattle.std.specs.Prelude.{◌≡◌, ℕ, ◌<◌, Bool, true, false}
 use Rattle.std.specs.declared.cmp.Ordering.{Ordering}
-use Rattle.store.specs.Meaning.{Meaning, Sound, Windows, values_in}
-use Rattle.pile.specs.Piled.{Apiece}
+use Rattle.store.specs.Meaning.{Meaning, values_in}
+use Rattle.joint.specs.Piled.{Apiece, Known}
 use Rattle.pile.specs.declared.Home.{Home}
 use Rattle.pile.specs.declared.Home.TheVariants.{Void, Window, Side}
 
--- what is known of the windows m and the side n
-pub record Known {K V : Type 0} (cmp : K → K → Ordering) (m n : Meaning K V) : Type 0 where
-  pub windows : Sound cmp m
-  pub side : Sound cmp n
-  pub full : Windows m
-
--- and of those of a live pile
+-- what is known of the windows m and the side n of a live pile
 pub record Lives {K V : Type 0} (cmp : K → K → Ordering) (live : Bool) (m n : Meaning K V) : Type 0 where
   pub is_live : live ≡ true
   pub known : Known cmp m n

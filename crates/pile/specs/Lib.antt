@@ -1,3 +1,2 @@
-pub mod Piled
 pub mod Homes
 pub mod Piles

@@ -1,11 +1,8 @@
 // A pile: windows, and a side that takes over a partition whose window is full.
 #![tactic(auto)]
 
-ghost use Rattle.std.specs.Prelude.{◌≡◌, ◌+◌, ◌%◌, ◌^◌, ◌<◌, ◌≤◌};
-ghost use Rattle.store.specs.Meaning.{Put, Take, Set, Removed, values_in};
-ghost use Rattle.moves.specs.Moving.{Moved};
-ghost use Rattle.pile.specs.Piled.{opened};
-ghost use Rattle.pile.specs.Piles.{pile_meaning, live_meaning, PileOk, KnownPile, LivePile, HomeIs, Spills};
+ghost use Rattle.std.specs.Prelude.{◌≡◌, true};
+ghost use Rattle.joint.specs.Piled.{opened, Apiece};
 
 use keys::Place;
 use moves::{move_partition, put_sure};
@@ -13,11 +10,12 @@ use store::{Refusal, Store, Windowed};
 
 // Windows and a side, held by value; a pile that is not live has no partitions.
 #[derive(Drop)]
-pub struct Pile<W, S> {
+pub struct Pile<W: Windowed, S: Store<Key = W::Key, Value = W::Value>> {
     windows: W,
     side: S,
     spills: u64,
     live: bool,
+    ghost apiece: { live ≡ true → Apiece (W.Store.meaning windows) (S.Store.meaning side) },
 }
 
 // Where the calls at a partition go.
@@ -28,11 +26,13 @@ enum Home {
 }
 
 impl<W: Windowed, S: Store<Key = W::Key, Value = W::Value>> Pile<W, S> {
+    ghost use Rattle.std.specs.Prelude.{◌+◌, ◌%◌, ◌^◌, ◌<◌, ◌≤◌};
+    ghost use Rattle.store.specs.Meaning.{Put, values_in};
+    ghost use Rattle.moves.specs.Moving.{Moved};
+    ghost use Rattle.pile.specs.Piles.{live_meaning, LivePile, HomeIs, Spills};
+
     // A pile over two stores: live where both are empty and have equally many partitions.
     pub fn open(windows: W, side: S) -> Pile<W, S>
-        requires windows { W.Store.ok windows }
-        requires side { S.Store.ok side }
-        ensures ok { PileOk W.Store.ok S.Store.ok W.Store.meaning S.Store.meaning result }
         ensures holds { (result.windows ≡ windows) × (result.side ≡ side) }
         ensures spills { result.spills ≡ 0 }
         ensures live { result.live ≡ opened (W.Store.meaning windows) (S.Store.meaning side) }
@@ -55,26 +55,13 @@ impl<W: Windowed, S: Store<Key = W::Key, Value = W::Value>> Pile<W, S> {
         self.spills
     }
 
-    // What is known of both stores; it does nothing.
-    fn known(&self)
-        requires windows { W.Store.ok self.now.windows }
-        requires side { S.Store.ok self.now.side }
-        ensures { KnownPile W.Key.cmp W.Store.meaning S.Store.meaning self.now }
-    {
-        self.windows.sound();
-        self.side.sound();
-        self.windows.window();
-    }
-
     // Where the calls at a partition go: to the side where it has a value there.
     fn home_of(&self, partition: u64) -> Home
-        requires { PileOk W.Store.ok S.Store.ok W.Store.meaning S.Store.meaning self.now }
-        ensures { HomeIs W.Key.cmp W.Store.meaning S.Store.meaning self.now partition result }
+        ensures { HomeIs self.now partition result }
     {
         if !self.live {
             return Home::Void;
         }
-        self.known();
         match self.side.first_in(partition) {
             Some(_) => Home::Side,
             None => Home::Window,
@@ -83,34 +70,26 @@ impl<W: Windowed, S: Store<Key = W::Key, Value = W::Value>> Pile<W, S> {
 
     // The space of a partition that is in the windows: what its window has left, or what the side would have left after a move.
     fn space_moved(&self, partition: u64) -> u64
-        requires windows { W.Store.ok self.now.windows }
-        requires side { S.Store.ok self.now.side }
-        requires live { LivePile W.Key.cmp W.Store.meaning S.Store.meaning self.now }
+        requires live { LivePile self.now }
         requires apart { values_in (S.Store.meaning self.now.side) partition ≡ 0 }
-        ensures { result ≡ (live_meaning W.Key.cmp W.Store.meaning S.Store.meaning self.now).space partition }
+        ensures { result ≡ (live_meaning self.now).space partition }
     {
         let window = self.windows.space(partition);
         let used = self.windows.window() - window;
         let side = self.side.space(partition).saturating_sub(used);
-        if side > window { side } else { window }
+        side.max(window)
     }
 
     // Moves a partition to the side, and counts that.
     fn spill(&mut self, partition: u64)
-        requires windows { W.Store.ok self.old.windows }
-        requires side { S.Store.ok self.old.side }
         requires apart { values_in (S.Store.meaning self.old.side) partition ≡ 0 }
         requires roomy { values_in (W.Store.meaning self.old.windows) partition ≤ (S.Store.meaning self.old.side).space partition }
-        ensures windows { W.Store.ok self.new.windows }
-        ensures side { S.Store.ok self.new.side }
         ensures lives { self.new.live ≡ self.old.live }
-        ensures known { KnownPile W.Key.cmp W.Store.meaning S.Store.meaning self.new }
         ensures moved { Moved W.Key.cmp (W.Store.meaning self.old.windows) (S.Store.meaning self.old.side) (W.Store.meaning self.new.windows) (S.Store.meaning self.new.side) partition }
         ensures counted { self.new.spills ≡ (self.old.spills + 1) % 2 ^ 64 }
     {
         move_partition(&mut self.windows, &mut self.side, partition);
         self.spills = self.spills.wrapping_add(1);
-        self.known();
     }
 
     // A put at a partition whose window has space; where that fills the window and the side has space for all of it, the partition is moved.
@@ -120,28 +99,20 @@ impl<W: Windowed, S: Store<Key = W::Key, Value = W::Value>> Pile<W, S> {
         offset: u64,
         value: W::Value,
     ) -> Result<(), Refusal>
-        requires windows { W.Store.ok self.old.windows }
-        requires side { S.Store.ok self.old.side }
-        requires live { LivePile W.Key.cmp W.Store.meaning S.Store.meaning self.old }
+        requires live { LivePile self.old }
         requires apart { values_in (S.Store.meaning self.old.side) place.now.partition ≡ 0 }
         requires roomy { 0 < (W.Store.meaning self.old.windows).space place.now.partition }
-        ensures ok { PileOk W.Store.ok S.Store.ok W.Store.meaning S.Store.meaning self.new }
         ensures lives { self.new.live ≡ self.old.live }
-        ensures does { Put W.Key.cmp (live_meaning W.Key.cmp W.Store.meaning S.Store.meaning self.old) (live_meaning W.Key.cmp W.Store.meaning S.Store.meaning self.new) place.now offset value result }
-        ensures counted { Spills W.Store.meaning S.Store.meaning self.old self.new place.now.partition result }
+        ensures does { Put W.Key.cmp (live_meaning self.old) (live_meaning self.new) place.now offset value result }
+        ensures counted { Spills self.old self.new place.now.partition result }
     {
-        match self.windows.put(place, offset, value) {
-            Ok(_) => {
-                self.known();
-                if self.windows.space(place.partition) == 0
-                    && self.side.space(place.partition) >= self.windows.window()
-                {
-                    self.spill(place.partition);
-                }
-                Ok(())
-            }
-            Err(refusal) => Err(refusal),
+        self.windows.put(place, offset, value)?;
+        if self.windows.space(place.partition) == 0
+            && self.side.space(place.partition) >= self.windows.window()
+        {
+            self.spill(place.partition);
         }
+        Ok(())
     }
 
     // A put at a partition whose window is full: it goes to the side, and the partition with it.
@@ -151,15 +122,12 @@ impl<W: Windowed, S: Store<Key = W::Key, Value = W::Value>> Pile<W, S> {
         offset: u64,
         value: W::Value,
     ) -> Result<(), Refusal>
-        requires windows { W.Store.ok self.old.windows }
-        requires side { S.Store.ok self.old.side }
-        requires live { LivePile W.Key.cmp W.Store.meaning S.Store.meaning self.old }
+        requires live { LivePile self.old }
         requires apart { values_in (S.Store.meaning self.old.side) place.now.partition ≡ 0 }
         requires full { (W.Store.meaning self.old.windows).space place.now.partition ≡ 0 }
-        ensures ok { PileOk W.Store.ok S.Store.ok W.Store.meaning S.Store.meaning self.new }
         ensures lives { self.new.live ≡ self.old.live }
-        ensures does { Put W.Key.cmp (live_meaning W.Key.cmp W.Store.meaning S.Store.meaning self.old) (live_meaning W.Key.cmp W.Store.meaning S.Store.meaning self.new) place.now offset value result }
-        ensures counted { Spills W.Store.meaning S.Store.meaning self.old self.new place.now.partition result }
+        ensures does { Put W.Key.cmp (live_meaning self.old) (live_meaning self.new) place.now offset value result }
+        ensures counted { Spills self.old self.new place.now.partition result }
     {
         if self.side.space(place.partition) <= self.windows.window() {
             return Err(Refusal::NoSpace);
@@ -174,25 +142,21 @@ impl<W: Windowed, S: Store<Key = W::Key, Value = W::Value>> Pile<W, S> {
 }
 
 impl<W: Windowed, S: Store<Key = W::Key, Value = W::Value>> Store for Pile<W, S> {
+    ghost use Rattle.store.specs.Meaning.{Put, Take, Set, Removed};
+    ghost use Rattle.pile.specs.Piles.{pile_meaning, pile_sound, Spills};
+
     type Key = W::Key;
 
     type Value = W::Value;
 
-    ghost meaning = { pile_meaning W.Key.cmp W.Store.meaning S.Store.meaning };
+    ghost meaning = { pile_meaning };
 
-    ghost ok = { PileOk W.Store.ok S.Store.ok W.Store.meaning S.Store.meaning };
-
-    // What is known of both stores makes the pile sound.
-    fn sound(&self) {
-        self.known();
-    }
+    ghost sound = { pile_sound W.Key.lawful W.Store.sound W.Windowed.windows S.Store.sound };
 
     // A put, with the rule by which it moves a partition.
     fn put(&mut self, place: &Place<W::Key>, offset: u64, value: W::Value) -> Result<(), Refusal>
-        requires { PileOk W.Store.ok S.Store.ok W.Store.meaning S.Store.meaning self.old }
-        ensures ok { PileOk W.Store.ok S.Store.ok W.Store.meaning S.Store.meaning self.new }
-        ensures does { Put W.Key.cmp (pile_meaning W.Key.cmp W.Store.meaning S.Store.meaning self.old) (pile_meaning W.Key.cmp W.Store.meaning S.Store.meaning self.new) place.now offset value result }
-        ensures counted { Spills W.Store.meaning S.Store.meaning self.old self.new place.now.partition result }
+        ensures does { Put W.Key.cmp (pile_meaning self.old) (pile_meaning self.new) place.now offset value result }
+        ensures counted { Spills self.old self.new place.now.partition result }
     {
         match self.home_of(place.partition) {
             Home::Void => Err(Refusal::NoSpace),
@@ -203,75 +167,43 @@ impl<W: Windowed, S: Store<Key = W::Key, Value = W::Value>> Store for Pile<W, S>
                     self.put_full(place, offset, value)
                 }
             }
-            Home::Side => {
-                let put = self.side.put(place, offset, value);
-                self.side.sound();
-                put
-            }
+            Home::Side => self.side.put(place, offset, value),
         }
     }
 
     // Takes a value out of the store that has the partition, and answers it.
     fn take(&mut self, place: &Place<W::Key>, offset: u64) -> Result<W::Value, Refusal>
-        requires { PileOk W.Store.ok S.Store.ok W.Store.meaning S.Store.meaning self.old }
-        ensures ok { PileOk W.Store.ok S.Store.ok W.Store.meaning S.Store.meaning self.new }
-        ensures does { Take W.Key.cmp (pile_meaning W.Key.cmp W.Store.meaning S.Store.meaning self.old) (pile_meaning W.Key.cmp W.Store.meaning S.Store.meaning self.new) place.now offset result }
+        ensures does { Take W.Key.cmp (pile_meaning self.old) (pile_meaning self.new) place.now offset result }
         ensures same { self.new.spills ≡ self.old.spills }
     {
         match self.home_of(place.partition) {
             Home::Void => Err(Refusal::PastEnd),
-            Home::Window => {
-                let taken = self.windows.take(place, offset);
-                self.windows.sound();
-                taken
-            }
-            Home::Side => {
-                let taken = self.side.take(place, offset);
-                self.side.sound();
-                taken
-            }
+            Home::Window => self.windows.take(place, offset),
+            Home::Side => self.side.take(place, offset),
         }
     }
 
     // Replaces a value in the store that has the partition.
     fn set(&mut self, place: &Place<W::Key>, offset: u64, value: W::Value) -> Result<(), Refusal>
-        requires { PileOk W.Store.ok S.Store.ok W.Store.meaning S.Store.meaning self.old }
-        ensures ok { PileOk W.Store.ok S.Store.ok W.Store.meaning S.Store.meaning self.new }
-        ensures does { Set W.Key.cmp (pile_meaning W.Key.cmp W.Store.meaning S.Store.meaning self.old) (pile_meaning W.Key.cmp W.Store.meaning S.Store.meaning self.new) place.now offset value result }
+        ensures does { Set W.Key.cmp (pile_meaning self.old) (pile_meaning self.new) place.now offset value result }
         ensures same { self.new.spills ≡ self.old.spills }
     {
         match self.home_of(place.partition) {
             Home::Void => Err(Refusal::PastEnd),
-            Home::Window => {
-                let set = self.windows.set(place, offset, value);
-                self.windows.sound();
-                set
-            }
-            Home::Side => {
-                let set = self.side.set(place, offset, value);
-                self.side.sound();
-                set
-            }
+            Home::Window => self.windows.set(place, offset, value),
+            Home::Side => self.side.set(place, offset, value),
         }
     }
 
     // Removes the run at a place from the store that has its partition.
     fn remove_run(&mut self, place: &Place<W::Key>)
-        requires { PileOk W.Store.ok S.Store.ok W.Store.meaning S.Store.meaning self.old }
-        ensures ok { PileOk W.Store.ok S.Store.ok W.Store.meaning S.Store.meaning self.new }
-        ensures does { Removed W.Key.cmp (pile_meaning W.Key.cmp W.Store.meaning S.Store.meaning self.old) (pile_meaning W.Key.cmp W.Store.meaning S.Store.meaning self.new) place.now }
+        ensures does { Removed W.Key.cmp (pile_meaning self.old) (pile_meaning self.new) place.now }
         ensures same { self.new.spills ≡ self.old.spills }
     {
         match self.home_of(place.partition) {
             Home::Void => {}
-            Home::Window => {
-                self.windows.remove_run(place);
-                self.windows.sound();
-            }
-            Home::Side => {
-                self.side.remove_run(place);
-                self.side.sound();
-            }
+            Home::Window => self.windows.remove_run(place),
+            Home::Side => self.side.remove_run(place),
         }
     }
 

@@ -8,52 +8,40 @@ use Rattle.moves.proofs.move_partition.Goals as goal
 pub loop-place-init : goal.loop-place-init
 loop-place-init g c =
     let cmp = g.W.Key.Ord.cmp in
-    let o = total (places_lawful cmp g.met.W.Key.Key.lawful) in (
-      c.requires.windows,
-      c.requires.side,
-      c.sound.ensures,
-      moving_none cmp o (g.W.Store.meaning c.args.windows.now) (g.S.Store.meaning c.args.side.now) c.args.partition c.requires.apart,
-    )
+    let o = total (places_lawful cmp g.met.W.Key.Key.lawful) in 
+    moving_none cmp o (g.W.Store.meaning c.args.windows.now) (g.S.Store.meaning c.args.side.now) c.args.partition c.requires.apart
 
 -- what one turn does
-turn : (g : _) (c : goal.After-sound-in-Some g) → Moving g.W.Key.Ord.cmp (g.W.Store.meaning c.args.windows.now) (g.S.Store.meaning c.args.side.now) (g.W.Store.meaning c.remove_run.new.self) (g.S.Store.meaning c.copy_run.new.to) c.args.partition × (values_in (g.W.Store.meaning c.remove_run.new.self) c.args.partition < values_in (g.W.Store.meaning c.loop-place.windows) c.args.partition)
+turn : (g : _) (c : goal.After-remove_run g) → Moving g.W.Key.Ord.cmp (g.W.Store.meaning c.args.windows.now) (g.S.Store.meaning c.args.side.now) (g.W.Store.meaning c.remove_run.new.self) (g.S.Store.meaning c.copy_run.new.to) c.args.partition × (values_in (g.W.Store.meaning c.remove_run.new.self) c.args.partition < values_in (g.W.Store.meaning c.loop-place.windows) c.args.partition)
 turn g c =
     let cmp = g.W.Key.Ord.cmp in
     let o = total (places_lawful cmp g.met.W.Key.Key.lawful) in
     let w = g.W.Store.meaning in
     let s = g.S.Store.meaning in
+    let sound = g.met.W.Store.sound in
     let h = first-place cmp o (w c.loop-place.windows) c.args.partition c.in-Some.place c.in-Some.ensures in
     moving_turn cmp o (w c.args.windows.now) (s c.args.side.now) (w c.loop-place.windows) (s c.loop-place.side) (w c.remove_run.new.self) (s c.copy_run.new.to)
-    c.in-Some.place c.args.partition h.0 h.1 c.loop-place.invariant.3 c.loop-place.invariant.2 c.sound-in-Some.ensures c.copy_run.ensures.does c.remove_run.ensures.does
+    c.in-Some.place c.args.partition h.0 h.1 c.loop-place.invariant (sound c.loop-place.windows) (sound c.remove_run.new.self) c.copy_run.ensures c.remove_run.ensures
 
 pub copy_run-requires : goal.copy_run-requires
 copy_run-requires g c =
     let cmp = g.W.Key.Ord.cmp in
     let o = total (places_lawful cmp g.met.W.Key.Key.lawful) in
-    let v = c.loop-place.invariant.3 in
+    let v = c.loop-place.invariant in
     let at = (first-place cmp o (g.W.Store.meaning c.loop-place.windows) c.args.partition c.in-Some.place c.in-Some.ensures).0 in
     let within = run-within cmp o (g.W.Store.meaning c.loop-place.windows) c.args.partition c.in-Some.place at in
-    record {
-      from = c.loop-place.invariant.0;
-      ok = c.loop-place.invariant.1;
-      roomy = omega (arith, within, v.falls, v.values, c.requires.roomy, ap (λ x. (g.S.Store.meaning c.loop-place.side).space x) at);
-    }
+    omega (arith, within, v.falls, v.values, c.requires.roomy, ap (λ x. (g.S.Store.meaning c.loop-place.side).space x) at)
 
 pub loop-place-smaller : goal.loop-place-smaller
 loop-place-smaller g c = (turn g c).1
 
 pub loop-place-preserved : goal.loop-place-preserved
-loop-place-preserved g c = (c.remove_run.ensures.ok, c.copy_run.ensures.ok, c.sound-in-Some.ensures, (turn g c).0)
+loop-place-preserved g c = (turn g c).0
 
 pub returns : goal.returns
 returns g c =
     let cmp = g.W.Key.Ord.cmp in
     let o = total (places_lawful cmp g.met.W.Key.Key.lawful) in
     let m1 = g.W.Store.meaning c.loop-place.windows in
-    record {
-      windows = c.loop-place.invariant.0;
-      side = c.loop-place.invariant.1;
-      moved =
-          moving_all cmp o (g.W.Store.meaning c.args.windows.now) (g.S.Store.meaning c.args.side.now) m1 (g.S.Store.meaning c.loop-place.side) c.args.partition
-          c.loop-place.invariant.3 (no_place cmp o m1 c.args.partition c.in_default.ensures);
-    }
+    moving_all cmp o (g.W.Store.meaning c.args.windows.now) (g.S.Store.meaning c.args.side.now) m1 (g.S.Store.meaning c.loop-place.side) c.args.partition
+    c.loop-place.invariant (no_place cmp o m1 c.args.partition c.in_default.ensures)

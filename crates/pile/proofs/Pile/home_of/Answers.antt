@@ -10,7 +10,11 @@ returns-in-Some g c =
     let o = total (places_lawful cmp g.met.W.Key.Key.lawful) in
     let n = g.S.Store.meaning c.args.self.now.side in
     let h = first-place cmp o n c.args.partition c.in-Some.field-0 c.in-Some.ensures in (
-      record { is_live = c.if-not-self.false; known = c.known.ensures; apiece = c.requires.apiece c.if-not-self.false },
+      record {
+        is_live = c.if-not-self.false;
+        known = record { windows = g.met.W.Store.sound c.args.self.now.windows; side = g.met.S.Store.sound c.args.self.now.side; full = g.met.W.Windowed.windows c.args.self.now.windows };
+        apiece = c.args.self.now.apiece c.if-not-self.false;
+      },
       omega (arith, h.1, run-within cmp o n c.args.partition c.in-Some.field-0 h.0),
     )
 
@@ -18,6 +22,10 @@ pub returns-in-None : goal.returns-in-None
 returns-in-None g c =
     let cmp = g.W.Key.Ord.cmp in
     let o = total (places_lawful cmp g.met.W.Key.Key.lawful) in (
-      record { is_live = c.if-not-self.false; known = c.known.ensures; apiece = c.requires.apiece c.if-not-self.false },
+      record {
+        is_live = c.if-not-self.false;
+        known = record { windows = g.met.W.Store.sound c.args.self.now.windows; side = g.met.S.Store.sound c.args.self.now.side; full = g.met.W.Windowed.windows c.args.self.now.windows };
+        apiece = c.args.self.now.apiece c.if-not-self.false;
+      },
       no_place cmp o (g.S.Store.meaning c.args.self.now.side) c.args.partition c.in-None.ensures,
     )

@@ -2,7 +2,7 @@ use Rattle.std.proofs.Common.{◌&&◌, sym, ap, ◌∙◌}
 use Rattle.keys.proofs.Tests.{total}
 use Rattle.keys.specs.Laws.{places_lawful}
 use Rattle.contents.specs.Entries.{none}
-use Rattle.pile.proofs.Lifts.{live-is, none-joint}
+use Rattle.joint.proofs.Lifts.{live-is, none-joint}
 use Rattle.pile.proofs.PileStore.is_empty.Goals as goal
 
 pub returns-else-is_empty : goal.returns-else-is_empty

@@ -2,8 +2,8 @@ use Rattle.std.proofs.Common.{ap, ◌∙◌}
 use Rattle.keys.proofs.Tests.{total}
 use Rattle.keys.specs.Laws.{places_lawful}
 use Rattle.store.specs.Meaning.{previous_in}
-use Rattle.pile.proofs.Joint.{run-windows, run-side}
-use Rattle.pile.proofs.Lifts.{live-is, previous-joint}
+use Rattle.joint.proofs.Joint.{run-windows, run-side}
+use Rattle.joint.proofs.Lifts.{live-is, previous-joint}
 use Rattle.pile.proofs.PileStore.previous_in.Goals as goal
 
 pub returns-in-Window : goal.returns-in-Window
@@ -13,7 +13,9 @@ returns-in-Window g c =
     let m = g.W.Store.meaning c.args.self.now.windows in
     let n = g.S.Store.meaning c.args.self.now.side in
     let at = c.in-Window.ensures in
-    c.previous_in.ensures ∙ previous-joint cmp o m n m c.args.place.now at.0.known.side at.0.known.windows (run-windows cmp o m n at.0.known.side c.args.place.now.partition at.1) ∙ ap (λ x. previous_in cmp x c.args.place.now) (live-is cmp c.args.self.now.live m n at.0.is_live)
+    c.previous_in.ensures
+    ∙ previous-joint cmp o m n m c.args.place.now at.0.known.side at.0.known.windows (run-windows cmp o m n at.0.known.side c.args.place.now.partition at.1)
+    ∙ ap (λ x. previous_in cmp x c.args.place.now) (live-is cmp c.args.self.now.live m n at.0.is_live)
 
 pub returns-in-Side : goal.returns-in-Side
 returns-in-Side g c =
@@ -22,4 +24,6 @@ returns-in-Side g c =
     let m = g.W.Store.meaning c.args.self.now.windows in
     let n = g.S.Store.meaning c.args.self.now.side in
     let at = c.in-Side.ensures in
-    c.previous_in-in-Side.ensures ∙ previous-joint cmp o m n n c.args.place.now at.0.known.side at.0.known.side (run-side cmp o m n at.0.known.side c.args.place.now.partition (at.0.apiece.apart c.args.place.now.partition at.1)) ∙ ap (λ x. previous_in cmp x c.args.place.now) (live-is cmp c.args.self.now.live m n at.0.is_live)
+    c.previous_in-in-Side.ensures
+    ∙ previous-joint cmp o m n n c.args.place.now at.0.known.side at.0.known.side (run-side cmp o m n at.0.known.side c.args.place.now.partition (at.0.apiece.apart c.args.place.now.partition at.1))
+    ∙ ap (λ x. previous_in cmp x c.args.place.now) (live-is cmp c.args.self.now.live m n at.0.is_live)

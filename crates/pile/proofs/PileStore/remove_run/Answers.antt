@@ -1,37 +1,51 @@
-use Rattle.std.proofs.Common.{refl}
 use Rattle.keys.proofs.Tests.{total}
 use Rattle.keys.specs.Laws.{places_lawful}
 use Rattle.store.specs.Meaning.{Removed}
-use Rattle.pile.proofs.Changes.{remove-window, remove-side}
-use Rattle.pile.proofs.Lifts.{lift}
+use Rattle.joint.proofs.Changes.{remove-window, remove-side}
+use Rattle.joint.proofs.Lifts.{lift}
+use Rattle.std.proofs.Common.{refl}
 use Rattle.pile.proofs.PileStore.remove_run.Goals as goal
 
-pub returns-in-Window : goal.returns-in-Window
-returns-in-Window g c =
+pub invariant_of-self : goal.invariant_of-self
+invariant_of-self g c =
     let cmp = g.W.Key.Ord.cmp in
     let o = total (places_lawful cmp g.met.W.Key.Key.lawful) in
     let m = g.W.Store.meaning c.args.self.now.windows in
     let n = g.S.Store.meaning c.args.self.now.side in
     let k = g.W.Store.meaning c.remove_run.new.self in
     let at = c.in-Window.ensures in
-    let t = remove-window cmp o m n k c.args.place.now at.0.known.windows at.0.known.side c.sound.ensures at.0.apiece at.1 c.remove_run.ensures.does in
-    record {
-      ok = record { windows = c.remove_run.ensures.ok; side = c.requires.side; apiece = λ e. t.1 };
-      does = lift cmp (λ x y. Removed cmp x y c.args.place.now) c.args.self.now.live c.args.self.now.live m n k n at.0.is_live refl t.0;
-      same = refl {a = c.args.self.now.spills};
-    }
+    let t = remove-window cmp o m n k c.args.place.now at.0.known.windows at.0.known.side (g.met.W.Store.sound c.remove_run.new.self) at.0.apiece at.1 c.remove_run.ensures in
+    record { apiece = λ e. t.1 }
 
-pub returns-in-Side : goal.returns-in-Side
-returns-in-Side g c =
+pub returns-in-Window-clause-does : goal.returns-in-Window-clause-does
+returns-in-Window-clause-does g c =
+    let cmp = g.W.Key.Ord.cmp in
+    let o = total (places_lawful cmp g.met.W.Key.Key.lawful) in
+    let m = g.W.Store.meaning c.args.self.now.windows in
+    let n = g.S.Store.meaning c.args.self.now.side in
+    let k = g.W.Store.meaning c.remove_run.new.self in
+    let at = c.in-Window.ensures in
+    let t = remove-window cmp o m n k c.args.place.now at.0.known.windows at.0.known.side (g.met.W.Store.sound c.remove_run.new.self) at.0.apiece at.1 c.remove_run.ensures in
+    lift cmp (λ x y. Removed cmp x y c.args.place.now) c.args.self.now.live c.args.self.now.live m n k n at.0.is_live refl t.0
+
+pub invariant_of-self-in-Side : goal.invariant_of-self-in-Side
+invariant_of-self-in-Side g c =
     let cmp = g.W.Key.Ord.cmp in
     let o = total (places_lawful cmp g.met.W.Key.Key.lawful) in
     let m = g.W.Store.meaning c.args.self.now.windows in
     let n = g.S.Store.meaning c.args.self.now.side in
     let k = g.S.Store.meaning c.remove_run-in-Side.new.self in
     let at = c.in-Side.ensures in
-    let t = remove-side cmp o m n k c.args.place.now at.0.known.side c.sound-in-Side.ensures at.0.apiece at.1 c.remove_run-in-Side.ensures.does in
-    record {
-      ok = record { windows = c.requires.windows; side = c.remove_run-in-Side.ensures.ok; apiece = λ e. t.1 };
-      does = lift cmp (λ x y. Removed cmp x y c.args.place.now) c.args.self.now.live c.args.self.now.live m n m k at.0.is_live refl t.0;
-      same = refl {a = c.args.self.now.spills};
-    }
+    let t = remove-side cmp o m n k c.args.place.now at.0.known.side (g.met.S.Store.sound c.remove_run-in-Side.new.self) at.0.apiece at.1 c.remove_run-in-Side.ensures in
+    record { apiece = λ e. t.1 }
+
+pub returns-in-Side-clause-does : goal.returns-in-Side-clause-does
+returns-in-Side-clause-does g c =
+    let cmp = g.W.Key.Ord.cmp in
+    let o = total (places_lawful cmp g.met.W.Key.Key.lawful) in
+    let m = g.W.Store.meaning c.args.self.now.windows in
+    let n = g.S.Store.meaning c.args.self.now.side in
+    let k = g.S.Store.meaning c.remove_run-in-Side.new.self in
+    let at = c.in-Side.ensures in
+    let t = remove-side cmp o m n k c.args.place.now at.0.known.side (g.met.S.Store.sound c.remove_run-in-Side.new.self) at.0.apiece at.1 c.remove_run-in-Side.ensures in
+    lift cmp (λ x y. Removed cmp x y c.args.place.now) c.args.self.now.live c.args.self.now.live m n m k at.0.is_live refl t.0

@@ -2,8 +2,8 @@ use Rattle.std.proofs.Common.{length, sym, refl, ap, ◌∙◌}
 use Rattle.keys.proofs.Tests.{total}
 use Rattle.keys.specs.Laws.{places_lawful}
 use Rattle.store.specs.Meaning.{run_at}
-use Rattle.pile.proofs.Joint.{run-windows, run-side}
-use Rattle.pile.proofs.Lifts.{live-is}
+use Rattle.joint.proofs.Joint.{run-windows, run-side}
+use Rattle.joint.proofs.Lifts.{live-is}
 use Rattle.pile.proofs.PileStore.run_len.Goals as goal
 
 pub returns-in-Window : goal.returns-in-Window

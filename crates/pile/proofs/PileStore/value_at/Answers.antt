@@ -3,8 +3,8 @@ use Rattle.keys.proofs.Tests.{total}
 use Rattle.keys.specs.Laws.{places_lawful}
 use Rattle.std.specs.List.{slice_get}
 use Rattle.store.specs.Meaning.{run_at}
-use Rattle.pile.proofs.Joint.{run-windows, run-side}
-use Rattle.pile.proofs.Lifts.{live-is}
+use Rattle.joint.proofs.Joint.{run-windows, run-side}
+use Rattle.joint.proofs.Lifts.{live-is}
 use Rattle.pile.proofs.PileStore.value_at.Goals as goal
 
 pub returns-in-Window : goal.returns-in-Window

@@ -17,8 +17,8 @@ pub returns : goal.returns
 returns g c =
     let t = c.args in
     let h = c.in_ok-len.ensures in
-    let v = c.index-used-at.result in
-    let read = c.index-used-at.is ∙ ap (λ xs. get_or xs c.in_ok-len.at v) c.used.ensures in
+    let v = c.value_at-value.result in
+    let read = c.value_at-value.ensures ∙ ap (λ xs. get_or xs c.in_ok-len.at v) c.used.ensures in
     let d =
     take_done g.met.K.Key.lawful t.keys.now t.values.now t.lengths.now t.self.window t.self.partitions c.requires c.args.place.now c.args.offset
     c.in_ok-len.len c.in_ok-len.at h.0 v h.1 h.2 read c.remove.new.cells c.remove-2.new.cells c.remove.ensures c.remove-2.ensures in

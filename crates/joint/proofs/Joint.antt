@@ -8,8 +8,7 @@ use Rattle.contents.proofs.Amounts.{amount-fits}
 use Rattle.contents.proofs.Merged.{rising-merged, run-merged, items-merged}
 use Rattle.store.specs.Meaning.{Meaning, Sound, in_part, values_in, run_at}
 use Rattle.moves.proofs.Steps.{bare}
-use Rattle.pile.specs.Piled.{joint, live_or_void, Apiece}
-use Rattle.pile.specs.Homes.{Known}
+use Rattle.joint.specs.Piled.{joint, live_or_void, Apiece, Known}
 
 pub either : (n : ℕ) → (n ≡ 0) ⊎ (0 < n)
 either n = ⊎_elim (λ e. inl e) (λ d. inr (omega arith)) (cases_eq n 0)

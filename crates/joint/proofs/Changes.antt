@@ -11,8 +11,8 @@ use Rattle.store.specs.declared.refusal.Refusal.{Refusal}
 use Rattle.store.specs.declared.refusal.Refusal.TheVariants.{Unsound, NoSpace, FewSlots, PastEnd}
 use Rattle.store.specs.Meaning.{Meaning, Sound, PutDone, Put, Take, Set, Removed, WhyPut, in_part, values_in, run_at}
 use Rattle.moves.proofs.Steps.{gains-values, clears-values}
-use Rattle.pile.specs.Piled.{joint, Apiece}
-use Rattle.pile.proofs.Joint.{space-windows, space-side, space-least, joint-run, run-windows, run-side}
+use Rattle.joint.specs.Piled.{joint, Apiece}
+use Rattle.joint.proofs.Joint.{space-windows, space-side, space-least, joint-run, run-windows, run-side}
 
 -- the two after calls that changed partition q alone
 pub apiece-from : {K V : Type 0} (m n m1 n1 : Meaning K V) (q : ℕ) → Apiece m n → n1.partitions ≡ n.partitions → m1.partitions ≡ m.partitions → ((r : ℕ) → (r ≡ q → ⊥) → values_in m1 r ≡ values_in m r) → ((r : ℕ) → (r ≡ q → ⊥) → values_in n1 r ≡ values_in n r) → (0 < values_in n1 q → values_in m1 q ≡ 0) → Apiece m1 n1
@@ -133,6 +133,11 @@ module _ {K V : Type 0} (cmp : K → K → Ordering) (o : Total (before (place_o
       apiece-from m n k n p.partition a refl d.same_partitions (gains-there m k p i v sm sk d.gains) (λ r ne. refl) (λ g. absurd (omega arith))
 
   -- a refused put at a window that has space
+  -- whatever a put in the windows answers
+  pub window-apart : (m n k : Meaning K V) (p : Place K) (i : ℕ) (v : V) (r : Result Unit Refusal) → Sound cmp m → Sound cmp k → Apiece m n → values_in n p.partition ≡ 0 → Put cmp m k p i v r → Apiece k n
+  window-apart m n k p i v (Ok _) sm sk a z d = window-apiece m n k p i v sm sk a z d
+  window-apart m n k p i v (Err e) sm sk a z d = apiece-windows m n k d.0 a
+
   pub window-refused : (m n k : Meaning K V) (p : Place K) (i : ℕ) (e : Refusal) → Sound cmp n → values_in n p.partition ≡ 0 → 0 < m.space p.partition → (k ≡ m) × WhyPut cmp m p i e → (joint cmp k n ≡ joint cmp m n) × WhyPut cmp (joint cmp m n) p i e
   window-refused m n k p i Unsound sn z h d = absurd d.1
   window-refused m n k p i NoSpace sn z h d = absurd (omega (arith, d.1))

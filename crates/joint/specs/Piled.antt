@@ -4,7 +4,7 @@ use Rattle.std.specs.declared.cmp.Ordering.{Ordering}
 use Rattle.keys.specs.Order.{before}
 use Rattle.keys.specs.Orders.{place_order}
 use Rattle.contents.specs.Entries.{merged, none}
-use Rattle.store.specs.Meaning.{Meaning, values_in, void}
+use Rattle.store.specs.Meaning.{Meaning, Sound, Windows, values_in, void}
 
 -- a partition is in the side while the side has a value there, and else in the windows
 abbrev pub joint : {K V : Type 0} → (K → K → Ordering) → Meaning K V → Meaning K V → Meaning K V
@@ -25,11 +25,11 @@ pub record Apiece {K V : Type 0} (m n : Meaning K V) : Type 0 where
   pub same : n.partitions ≡ m.partitions
   pub apart : (q : ℕ) → 0 < values_in n q → values_in m q ≡ 0
 
--- what a pile keeps between calls; wok and sok are what its windows and its side keep
-pub record Kept {K V : Type 0} (wok sok : Type 0) (live : Bool) (m n : Meaning K V) : Type 0 where
-  pub windows : wok
-  pub side : sok
-  pub apiece : live ≡ true → Apiece m n
+-- what is known of the windows m and the side n
+pub record Known {K V : Type 0} (cmp : K → K → Ordering) (m n : Meaning K V) : Type 0 where
+  pub windows : Sound cmp m
+  pub side : Sound cmp n
+  pub full : Windows m
 
 -- a pile is live where it was opened over two empty stores with equally many partitions
 abbrev pub opened : {K V : Type 0} → Meaning K V → Meaning K V → Bool

@@ -1,5 +1,5 @@
 -- What a move of a partition to the side leaves of a live pile. Assumes nothing.
-use Rattle.std.proofs.Common.{◌≡◌, ℕ, ◌+◌, ◌%◌, ◌^◌, ◌<◌, ◌≤◌, Bool, true, false, cond, ◌&&◌, eqb, leb, [], ◌++◌, Ok, Err, Result, Ordering, sym, refl, ap, ◌∙◌, subst, ⊎_elim, arith}
+use Rattle.std.proofs.Common.{◌≡◌, ℕ, ◌+◌, ◌%◌, ◌^◌, ◌<◌, ◌≤◌, Bool, true, false, cond, ◌&&◌, eqb, leb, [], ◌++◌, Ordering, sym, refl, ap, ◌∙◌, subst, ⊎_elim, arith}
 use Rattle.std.proofs.lemmas.Bool.{cases_eq, cases_lt, eqb-true, eq-eqb, ne_eqb, le-leb, lt-leb, both_ways}
 use Rattle.keys.specs.Order.{Total, before}
 use Rattle.keys.specs.Orders.{place_order}
@@ -9,16 +9,12 @@ use Rattle.contents.specs.Changes.{Gains}
 use Rattle.contents.proofs.Laws.{extensional}
 use Rattle.contents.proofs.Amounts.{amount-same}
 use Rattle.contents.proofs.Merged.{rising-merged}
-use Rattle.store.specs.declared.refusal.Refusal.{Refusal}
 use Rattle.store.specs.Meaning.{Meaning, Sound, Windows, PutDone, in_part, values_in, run_at}
 use Rattle.moves.specs.Moving.{Apart, Moved}
 use Rattle.moves.proofs.Steps.{gains-values}
-use Rattle.pile.specs.Piled.{joint, Apiece, spilled, Counted}
-use Rattle.pile.specs.Homes.{Known}
-use Rattle.pile.specs.Piles.{Spills}
-use Rattle.pile.specs.declared.Pile.{Pile}
-use Rattle.pile.proofs.Joint.{either, space-windows, space-side, space-least, joint-run, run-windows, run-side}
-use Rattle.pile.proofs.Changes.{apiece-from}
+use Rattle.joint.specs.Piled.{joint, Apiece, spilled, Counted, Known}
+use Rattle.joint.proofs.Joint.{either, space-windows, space-side, space-least, joint-run, run-windows, run-side}
+use Rattle.joint.proofs.Changes.{apiece-from}
 
 -- equal contents, and no less space at q
 pub record Same {K V : Type 0} (a b : Meaning K V) (q : ℕ) : Type 0 where
@@ -169,10 +165,5 @@ module _ {K V : Type 0} (m n : Meaning K V) (q : ℕ) where
   }
 
   -- nothing where it is in the side
-  counted-side : (n1 : Meaning K V) (a : ℕ) → 0 < values_in n q → Counted m n n1 q a a
+  pub counted-side : (n1 : Meaning K V) (a : ℕ) → 0 < values_in n q → Counted m n n1 q a a
   counted-side n1 a h = counted-stays n1 a (no_spill_side h) (λ z. absurd (omega arith))
-
-pub spills_side : {W S K V : Type 0} (mw : W → Meaning K V) (ms : S → Meaning K V) (s t : Pile W S) (q : ℕ) (r : Result Unit Refusal) → t.spills ≡ s.spills → 0 < values_in (ms s.side) q → Spills mw ms s t q r
-spills_side mw ms s t q (Ok _) e h =
-    subst (Counted (mw s.windows) (ms s.side) (ms t.side) q s.spills) (sym e) (counted-side (mw s.windows) (ms s.side) q (ms t.side) s.spills h)
-spills_side mw ms s t q (Err x) e h = e

@@ -8,7 +8,7 @@ use Rattle.contents.specs.Entries.{Entry, merged, none}
 use Rattle.contents.proofs.Amounts.{first-same, last-same}
 use Rattle.contents.proofs.Merged.{rising-merged, items-merged}
 use Rattle.store.specs.Meaning.{Meaning, Sound, in_part, run_at, first_in, last_in, next_in, previous_in, void}
-use Rattle.pile.specs.Piled.{joint, live_or_void}
+use Rattle.joint.specs.Piled.{joint, live_or_void}
 
 none-length : {X : Type 0} (xs : List X) → none xs ≡ eqb (length xs) 0
 none-length [] = refl

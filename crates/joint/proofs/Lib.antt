@@ -1,0 +1,4 @@
+pub mod Joint
+pub mod Lifts
+pub mod Changes
+pub mod Spilling
