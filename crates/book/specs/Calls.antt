@@ -1,5 +1,5 @@
 -- What the calls of a book answer and leave. Assumes nothing.
-use Rattle.std.specs.Prelude.{◌≡◌, ℕ, ◌-◌, ◌^◌, ◌<◌, ◌≤◌, Bool, cond, ◌&&◌, ◌⊎◌, List, ◌++◌, length, drop, Ok, Err, Result, ◌==◌, nat_le, nat_lt}
+use Rattle.std.specs.Prelude.{◌≡◌, ℕ, ◌-◌, ◌^◌, ◌<◌, ◌≤◌, Bool, cond, ◌&&◌, ◌⊎◌, List, ◌++◌, length, drop, Some, None, Option, Ok, Err, Result, ◌==◌, nat_le, nat_lt}
 use Rattle.std.specs.declared.cmp.Ordering.{Ordering}
 use Rattle.keys.specs.Order.{before}
 use Rattle.keys.specs.Orders.{place_order}
@@ -8,6 +8,7 @@ use Rattle.contents.specs.Entries.{none, keys, items}
 use Rattle.store.specs.Meaning.{Meaning, run_at, PutDone}
 use Rattle.store.specs.declared.refusal.Refusal.{Refusal}
 use Rattle.store.specs.declared.refusal.Refusal.TheVariants.{Unsound, NoSpace, FewSlots, PastEnd}
+use Rattle.translate.specs.declared.prefix.Prefix.{Prefix}
 use Rattle.book.specs.declared.counts.Counts.{Counts}
 
 -- all of a book: prefix is P, or 0 where the opening was unsound
@@ -23,6 +24,16 @@ sound p m = nat_le 1 p && nat_le p 3 && m.partitions == 256 ^ p && nat_lt 0 m.as
 
 abbrev pub opened : {T K V : Type 0} → ℕ → ℕ → Meaning K V → T → State T K V
 opened label p m t = record { label = label; prefix = cond (sound p m) p 0; translator = t; store = m }
+
+-- P of a prefix, and 0 where there is none
+abbrev pub bytes : Option Prefix → ℕ
+bytes None = 0
+bytes (Some p) = p.bytes
+
+-- a book that was opened unsoundly refuses; any other answers what `by` reads as a
+abbrev pub AnswersBy : {T K V A B : Type 0} → (B → A) → State T K V → A → Result B Refusal → Type 0
+AnswersBy by s a (Ok r) = (0 < s.prefix) × (by r ≡ a)
+AnswersBy by s a (Err e) = (e ≡ Unsound) × (s.prefix ≡ 0)
 
 -- a book that was opened unsoundly refuses; any other answers a
 abbrev pub Answers : {T K V A : Type 0} → State T K V → A → Result A Refusal → Type 0

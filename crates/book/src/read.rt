@@ -7,7 +7,7 @@ ghost use Rattle.store.specs.Meaning.{run_at};
 ghost use Rattle.translate.specs.Bytes.{Keeps};
 ghost use Rattle.translate.specs.Split.{place_of};
 ghost use Rattle.book.specs.Calls.{Answers, counts, Copy};
-ghost use Rattle.book.specs.State.{state, BookOk};
+ghost use Rattle.book.specs.State.{state};
 
 use crate::book::Book;
 use crate::counts::Counts;
@@ -18,8 +18,7 @@ use translate::{OrderedTranslator, Translator};
 impl<S: Store, T: Translator<Key = S::Key>> Book<S, T> {
     // Copies the run of `key` to the first slots, and answers its length.
     pub fn get(&self, key: &[u8], slots: &mut [S::Value]) -> Result<usize, Refusal>
-        requires { BookOk S.Store.meaning S.Store.ok S.Key.cmp self.now }
-        ensures { Copy S.Key.cmp (state S.Store.meaning self.now) (place_of (state S.Store.meaning self.now).prefix (T.Translator.meaning self.now.translator) key.now) slots.old slots.new result }
+        ensures { Copy S.Key.cmp (state self.now) (place_of (state self.now).prefix (T.Translator.meaning self.now.translator) key.now) slots.old slots.new result }
     {
         let place = self.place(key)?;
         self.run(&place, slots)
@@ -27,8 +26,7 @@ impl<S: Store, T: Translator<Key = S::Key>> Book<S, T> {
 
     // Copies the run at `place` to the first slots, and answers its length.
     pub fn run(&self, place: &Place<S::Key>, slots: &mut [S::Value]) -> Result<usize, Refusal>
-        requires { BookOk S.Store.meaning S.Store.ok S.Key.cmp self.now }
-        ensures { Copy S.Key.cmp (state S.Store.meaning self.now) place.now slots.old slots.new result }
+        ensures { Copy S.Key.cmp (state self.now) place.now slots.old slots.new result }
     {
         self.opened()?;
         let len = self.store.run_len(place) as usize;
@@ -41,8 +39,7 @@ impl<S: Store, T: Translator<Key = S::Key>> Book<S, T> {
 
     // The number of places held, of values held, and of values struck.
     pub fn counts(&self) -> Result<Counts, Refusal>
-        requires { BookOk S.Store.meaning S.Store.ok S.Key.cmp self.now }
-        ensures { Answers (state S.Store.meaning self.now) (counts S.Key.cmp (state S.Store.meaning self.now)) result }
+        ensures { Answers (state self.now) (counts S.Key.cmp (state self.now)) result }
     {
         self.opened()?;
         Ok(Counts {
@@ -58,25 +55,14 @@ impl<S: Store, T: Translator<Key = S::Key>> Book<S, T> {
     {
         &self.store
     }
-
-    // The refusal of a book that was opened unsoundly.
-    fn opened(&self) -> Result<(), Refusal>
-        ensures { Answers (state S.Store.meaning self.now) tt result }
-    {
-        match &self.prefix {
-            None => Err(Refusal::Unsound),
-            Some(_) => Ok(()),
-        }
-    }
 }
 
 // Order is for translators that keep it: of two keys, the earlier in bytes never has the later place.
 impl<S: Store, T: OrderedTranslator<Key = S::Key>> Book<S, T> {
     // The least place.
     pub fn first(&self) -> Result<Option<Place<S::Key>>, Refusal>
-        requires { BookOk S.Store.meaning S.Store.ok S.Key.cmp self.now }
-        ensures place { Answers (state S.Store.meaning self.now) (first_that (λ _. true) (places (state S.Store.meaning self.now).store.contents)) result }
-        ensures keeps { Keeps (place_order S.Key.cmp) (place_of (state S.Store.meaning self.now).prefix (T.Translator.meaning self.now.translator)) }
+        ensures place { Answers (state self.now) (first_that (λ _. true) (places (state self.now).store.contents)) result }
+        ensures keeps { Keeps (place_order S.Key.cmp) (place_of (state self.now).prefix (T.Translator.meaning self.now.translator)) }
     {
         self.opened()?;
         Ok(first_from(&self.store, 0))
@@ -84,8 +70,7 @@ impl<S: Store, T: OrderedTranslator<Key = S::Key>> Book<S, T> {
 
     // The greatest place.
     pub fn last(&self) -> Result<Option<Place<S::Key>>, Refusal>
-        requires { BookOk S.Store.meaning S.Store.ok S.Key.cmp self.now }
-        ensures { Answers (state S.Store.meaning self.now) (last_that (λ _. true) (places (state S.Store.meaning self.now).store.contents)) result }
+        ensures { Answers (state self.now) (last_that (λ _. true) (places (state self.now).store.contents)) result }
     {
         self.opened()?;
         Ok(last_of(&self.store))
@@ -93,8 +78,7 @@ impl<S: Store, T: OrderedTranslator<Key = S::Key>> Book<S, T> {
 
     // The least place after `place`; none after the last.
     pub fn next_after(&self, place: &Place<S::Key>) -> Result<Option<Place<S::Key>>, Refusal>
-        requires { BookOk S.Store.meaning S.Store.ok S.Key.cmp self.now }
-        ensures { Answers (state S.Store.meaning self.now) (first_that (before (place_order S.Key.cmp) place.now) (places (state S.Store.meaning self.now).store.contents)) result }
+        ensures { Answers (state self.now) (first_that (before (place_order S.Key.cmp) place.now) (places (state self.now).store.contents)) result }
     {
         self.opened()?;
         Ok(next_place(&self.store, place))
@@ -103,7 +87,6 @@ impl<S: Store, T: OrderedTranslator<Key = S::Key>> Book<S, T> {
 
 // Copies a run of `len` values to the first slots.
 fn copy_run<S: Store>(store: &S, place: &Place<S::Key>, len: usize, slots: &mut [S::Value])
-    requires ok { S.Store.ok store.now }
     requires whole { len ≡ length (run_at S.Key.cmp (S.Store.meaning store.now) place.now) }
     requires room { len ≤ length slots.old }
     ensures { slots.new ≡ run_at S.Key.cmp (S.Store.meaning store.now) place.now ++ drop len slots.old }
@@ -118,10 +101,8 @@ fn copy_run<S: Store>(store: &S, place: &Place<S::Key>, len: usize, slots: &mut 
 
 // The least place of the partitions from `from` on.
 fn first_from<S: Store>(store: &S, from: u64) -> Option<Place<S::Key>>
-    requires { S.Store.ok store.now }
     ensures { result ≡ first_that (λ p. nat_le from p.partition) (places (S.Store.meaning store.now).contents) }
 {
-    store.sound();
     for q in from..store.partition_count() {
         if let Some(place) = store.first_in(q) {
             return Some(place);
@@ -132,13 +113,9 @@ fn first_from<S: Store>(store: &S, from: u64) -> Option<Place<S::Key>>
 
 // The greatest place of all.
 fn last_of<S: Store>(store: &S) -> Option<Place<S::Key>>
-    requires { S.Store.ok store.now }
     ensures { result ≡ last_that (λ _. true) (places (S.Store.meaning store.now).contents) }
 {
-    store.sound();
-    let mut q = store.partition_count();
-    while q > 0 {
-        q -= 1;
+    for q in (0..store.partition_count()).rev() {
         if let Some(place) = store.last_in(q) {
             return Some(place);
         }
@@ -148,10 +125,8 @@ fn last_of<S: Store>(store: &S) -> Option<Place<S::Key>>
 
 // The least place after `place`, which may be of any partition.
 fn next_place<S: Store>(store: &S, place: &Place<S::Key>) -> Option<Place<S::Key>>
-    requires { S.Store.ok store.now }
     ensures { result ≡ first_that (before (place_order S.Key.cmp) place.now) (places (S.Store.meaning store.now).contents) }
 {
-    store.sound();
     if let Some(next) = store.next_in(place) {
         return Some(next);
     }

@@ -3,6 +3,3 @@ use Rattle.book.proofs.read.last_of.Given as goal
 
 abbrev pub invariant-loop-q : goal.invariant-loop-q
 invariant-loop-q g l = Bare g.S.Key.Ord.cmp (g.S.Store.meaning l.store) l.q (g.S.Store.meaning l.store).partitions
-
-abbrev pub decreases-loop-q : goal.decreases-loop-q
-decreases-loop-q g l = l.q

@@ -1,5 +1,5 @@
 use Rattle.translate.specs.Keeping.{place_keeps}
-use Rattle.book.specs.State.{bytes}
+use Rattle.book.specs.Calls.{bytes}
 use Rattle.book.proofs.Near.{first-all}
 use Rattle.book.proofs.book.Book.first.Goals as goal
 

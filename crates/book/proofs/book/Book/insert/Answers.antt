@@ -1,25 +1,42 @@
-use Rattle.std.proofs.Common.{arith}
-use Rattle.book.proofs.Append.{keys_fit, appended_first, appended_later}
+use Rattle.std.proofs.Common.{sym, ap, ◌∙◌, ◌+◌, arith}
+use Rattle.keys.specs.Order.{before}
+use Rattle.keys.specs.Orders.{place_order}
+use Rattle.contents.proofs.Laws.{keys-few}
+use Rattle.book.proofs.Append.{more_items, keys_first, keys_later}
 use Rattle.book.proofs.book.Book.insert.Goals as goal
 
 pub overflow_add-self-then-end-eq0 : goal.overflow_add-self-then-end-eq0
 overflow_add-self-then-end-eq0 g c =
-    omega (arith, keys_fit g.S.Store.meaning g.S.Store.ok g.met.S.Key.Key.lawful c.args.self.now c.requires c.in_ok-place.ensures.0)
+    let b = c.args.self.now in
+    let opened = c.in_ok-place.ensures.0 in
+    omega (arith, b.keys_counted opened, b.items_counted opened, keys-few (before (place_order g.S.Key.Ord.cmp)) (g.S.Store.meaning b.store).contents)
 
-pub returns-then-end-eq0 : goal.returns-then-end-eq0
-returns-then-end-eq0 g c =
-    let at = c.in_ok-place.ensures in
-    let done = c.in_ok-put.ensures in
-    let h =
-    appended_first g.S.Store.meaning g.S.Store.ok g.met.S.Key.Key.lawful c.args.self.now c.requires at.0 c.put.new.self done.ok c.sound.ensures c.sound-2.ensures
-    c.in_ok-place.place _ c.run_len-end.result c.args.value at.1 c.run_len-end.ensures (omega arith) done.does c.if-end-eq0.true in
-    record { ok = h.0; does = h.1 }
+pub invariant_of-self-then-end-eq0 : goal.invariant_of-self-then-end-eq0
+invariant_of-self-then-end-eq0 g c =
+    let b = c.args.self.now in
+    let s = c.put.new.self in
+    let d = c.in_ok-put.ensures in
+    let sound = g.met.S.Store.sound in
+    let p = c.in_ok-place.place in
+    let i = c.run_len-end.result in
+    let v = c.args.value in
+    record {
+      partitions = λ h. d.same_partitions ∙ b.partitions h;
+      keys_counted = λ h. ap (λ k. k + 1) (b.keys_counted h) ∙ sym (keys_first g.met.S.Key.Key.lawful (g.S.Store.meaning b.store) (g.S.Store.meaning s) (sound b.store) (sound s) p i v d (omega (arith, c.run_len-end.ensures, c.if-end-eq0.true)));
+      items_counted = λ h. ap (λ k. k + 1) (b.items_counted h) ∙ sym (more_items g.met.S.Key.Key.lawful (g.S.Store.meaning b.store) (g.S.Store.meaning s) (sound b.store) (sound s) p i v d);
+    }
 
-pub returns-else-end-eq0 : goal.returns-else-end-eq0
-returns-else-end-eq0 g c =
-    let at = c.in_ok-place.ensures in
-    let done = c.in_ok-put.ensures in
-    let h =
-    appended_later g.S.Store.meaning g.S.Store.ok g.met.S.Key.Key.lawful c.args.self.now c.requires at.0 c.put.new.self done.ok c.sound.ensures c.sound-2.ensures
-    c.in_ok-place.place _ c.run_len-end.result c.args.value at.1 c.run_len-end.ensures (omega arith) done.does c.if-end-eq0.false in
-    record { ok = h.0; does = h.1 }
+pub invariant_of-self-else-end-eq0 : goal.invariant_of-self-else-end-eq0
+invariant_of-self-else-end-eq0 g c =
+    let b = c.args.self.now in
+    let s = c.put.new.self in
+    let d = c.in_ok-put.ensures in
+    let sound = g.met.S.Store.sound in
+    let p = c.in_ok-place.place in
+    let i = c.run_len-end.result in
+    let v = c.args.value in
+    record {
+      partitions = λ h. d.same_partitions ∙ b.partitions h;
+      keys_counted = λ h. b.keys_counted h ∙ sym (keys_later g.met.S.Key.Key.lawful (g.S.Store.meaning b.store) (g.S.Store.meaning s) (sound b.store) (sound s) p i v d (λ z. c.if-end-eq0.false (c.run_len-end.ensures ∙ z)));
+      items_counted = λ h. ap (λ k. k + 1) (b.items_counted h) ∙ sym (more_items g.met.S.Key.Key.lawful (g.S.Store.meaning b.store) (g.S.Store.meaning s) (sound b.store) (sound s) p i v d);
+    }
