@@ -6,7 +6,6 @@ ghost use Rattle.translate.specs.Keeping.{cap_keeps};
 use crate::padded::padded_to;
 use crate::translator::{OrderedTranslator, Translator};
 use keys::Key;
-use std::cmp::Ordering;
 
 // Four bytes, padded on the right with zeros, as a big-endian number.
 #[derive(Clone, Copy)]
@@ -26,8 +25,4 @@ impl Translator for Cap {
 // Bytes padded alike compare as their numbers do, so a cap keeps order.
 impl OrderedTranslator for Cap {
     ghost keeps = { λ t. cap_keeps };
-
-    fn compare_translated(&self, a: &[u8], b: &[u8]) -> Ordering {
-        self.translate(a).cmp(&self.translate(b))
-    }
 }

@@ -6,7 +6,6 @@ ghost use Rattle.translate.specs.Keeping.{label_keeps};
 use crate::padded::padded_to;
 use crate::translator::{OrderedTranslator, Translator};
 use keys::{Key, Label};
-use std::cmp::Ordering;
 
 // Eight bytes, padded on the right with zeros.
 #[derive(Clone, Copy)]
@@ -28,8 +27,4 @@ impl Translator for Labels {
 // Padding reverses no two keys, so a label keeps order.
 impl OrderedTranslator for Labels {
     ghost keeps = { λ t. label_keeps };
-
-    fn compare_translated(&self, a: &[u8], b: &[u8]) -> Ordering {
-        self.translate(a).cmp(&self.translate(b))
-    }
 }

@@ -8,8 +8,6 @@ pub fn padded_to<const N: usize>(bytes: &[u8]) -> [u8; N]
 {
     let mut out = [0u8; N];
     let n = bytes.len().min(N);
-    for i in 0..n {
-        out[i] = bytes[i];
-    }
+    out[..n].copy_from_slice(&bytes[..n]);
     out
 }

@@ -20,7 +20,10 @@ pub trait Translator {
 pub trait OrderedTranslator: Translator {
     // How the keys of two sub-keys compare.
     fn compare_translated(&self, a: &[u8], b: &[u8]) -> Ordering
-        ensures { result ≡ Self.Key.cmp (Self.Translator.meaning self.now a.now) (Self.Translator.meaning self.now b.now) };
+        ensures { result ≡ Self.Key.cmp (Self.Translator.meaning self.now a.now) (Self.Translator.meaning self.now b.now) }
+    {
+        self.translate(a).cmp(&self.translate(b))
+    }
 
     ghost keeps: { (t : Self) → Keeps Self.Key.cmp (Self.Translator.meaning t) };
 }

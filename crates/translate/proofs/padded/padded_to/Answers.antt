@@ -1,8 +1,10 @@
-use Rattle.std.proofs.Common.{arith}
-use Rattle.std.proofs.lemmas.List.{get_or_past}
-use Rattle.translate.specs.Padding.{padded-from}
+use Rattle.std.proofs.Common.{◌++◌, drop, replicate, ap, ◌∙◌, rules, arith}
+use Rattle.std.proofs.lemmas.List.{places, get_or_past}
+use Rattle.translate.specs.Padding.{padded-from, zeros}
 use Rattle.translate.proofs.padded.padded_to.Goals as goal
 
 pub returns : goal.returns
 returns g c =
-    padded-from g.row.N c.args.bytes.now c.loop-i.out c.loop-i.invariant.0 (λ k h. grind (arith, get_or_past, c.loop-i.invariant.1 k, c.loop-i.invariant.2 k))
+    let n = g.row.N in
+    ap (λ xs. xs ++ drop c.min-n.result (replicate n 0)) c.copy_from_slice.ensures.after
+    ∙ padded-from n c.args.bytes.now _ (search (rules, places)) (λ k l. grind (arith, places, zeros, get_or_past))
