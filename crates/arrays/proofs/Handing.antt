@@ -1,13 +1,14 @@
 -- The part of the values that is the run of a chosen key. Assumes nothing.
-use Rattle.std.proofs.Common.{◌≡◌, ℕ, ◌+◌, ◌-◌, ◌<◌, ◌≤◌, Bool, true, false, not, List, [], ◌∷◌, length, get_or, Some, None, Option, sym, refl, ap, ◌∙◌, arith}
-use Rattle.std.specs.List.{between}
-use Rattle.std.proofs.lemmas.List.{get_or_default}
-use Rattle.std.proofs.lemmas.Bool.{not-true, not-false}
+use Rattle.std.proofs.Common.{◌≡◌, ℕ, ◌-◌, ◌<◌, Bool, true, false, not, List, [], ◌∷◌, length, get_or, take, Some, Option, sym, refl, ap, ◌∙◌, ⊎_elim, arith}
+use Rattle.std.specs.List.{between, slice_get}
+use Rattle.std.specs.Option.{option_map}
+use Rattle.std.proofs.lemmas.List.{get_or_default, get_or-take, length-take-le}
+use Rattle.std.proofs.lemmas.Bool.{cases_lt, not-true, not-false}
+use Rattle.std.proofs.lemmas.Option.{slice_get-get_or, slice_get_past}
 use Rattle.keys.specs.Order.{Total}
 use Rattle.contents.specs.Sorted.{Sorted, below, upto}
-use Rattle.contents.specs.Entries.{Entry, entries, run, first_that, last_that}
-use Rattle.contents.proofs.Order.{chain, chain_on}
-use Rattle.contents.proofs.Bounds.{parted, below_parts, upto-parts, run_is}
+use Rattle.contents.specs.Entries.{entries, run, first_that, last_that}
+use Rattle.contents.proofs.Bounds.{Parts, parted, run_is}
 use Rattle.arrays.specs.Handed.{handed}
 use Rattle.arrays.proofs.Chosen.{first-none, first-at, last_none, last-at}
 
@@ -16,100 +17,73 @@ some : {K : Type 0} (ks : List K) → 0 < length ks → K
 some [] h = absurd (omega arith)
 some (k ∷ ks) h = k
 
--- the part by its ends
-pub ends : {V : Type 0} (vs : List V) (s e s' e' : ℕ) → s ≡ s' → e ≡ e' → between s e vs ≡ between s' e' vs
-ends vs s e s' e' p q = ap (λ n. between n e vs) p ∙ ap (λ n. between s' n vs) q
+module _ {K V : Type 0} {lt : K → K → Bool} (o : Total lt) (ks : List K) (vs : List V) (up : Sorted lt ks) (along : length ks ≡ length vs) where
+  -- the part from s to e is the run of a key that has these bounds
+  pub part_is : (s e : ℕ) (key : K) → s ≡ below lt ks key → e ≡ upto lt ks key → between s e vs ≡ run lt (entries ks vs) key
+  part_is s e key p q = ap (λ n. between n e vs) p ∙ ap (λ n. between (below lt ks key) n vs) q ∙ run_is o ks vs key up along
 
-module _ {K : Type 0} {lt : K → K → Bool} (o : Total lt) (ks : List K) (up : Sorted lt ks) where
-  -- i is the first of its run
-  starts : (i : ℕ) (d : K) → i < length ks → ((k : ℕ) (d : K) → k < i → lt (get_or ks k d) (get_or ks i d) ≡ true) → i ≡ below lt ks (get_or ks i d)
-  starts i d within f =
-      parted (λ x. lt x (get_or ks i d)) ks i
-      (record {
-        within = omega arith;
-        before = λ k d' l. ap (lt (get_or ks k d')) (get_or_default ks i d d' within) ∙ f k d' l;
-        after = λ k d' l m. ap (lt (get_or ks k d')) (get_or_default ks i d d' within) ∙ up i k d' l m;
-      })
+  -- from i on to the end of the run of the key there, and up to i from the start of the run of the key before it
+  abbrev ahead : ℕ → Option (List V)
+  ahead i = option_map (λ k. between i (upto lt ks k) vs) (slice_get ks i)
 
-  -- i is the last of its run
-  stops : (i : ℕ) (d : K) → i < length ks → ((k : ℕ) (d : K) → i < k → k < length ks → lt (get_or ks i d) (get_or ks k d) ≡ true) → i + 1 ≡ upto lt ks (get_or ks i d)
-  stops i d within f =
-      parted (λ x. not (lt (get_or ks i d) x)) ks (i + 1)
-      (record {
-        within = omega arith;
-        before = λ k d' l. ap not (ap (λ x. lt x (get_or ks k d')) (get_or_default ks i d d' within) ∙ up k i d' (omega arith) within);
-        after = λ k d' l m. ap not (ap (λ x. lt x (get_or ks k d')) (get_or_default ks i d d' within) ∙ f k d' (omega arith) m);
-      })
+  abbrev behind : ℕ → Option (List V)
+  behind i = option_map (λ k. between (below lt ks k) i vs) (slice_get (take i ks) (i - 1))
 
-module _ {K V : Type 0} {lt : K → K → Bool} (o : Total lt) (ks : List K) (vs : List V) (up : Sorted lt ks) (along : length ks ≡ length vs) (s e : ℕ) where
-  pub part_is : (key : K) → s ≡ below lt ks key → e ≡ upto lt ks key → between s e vs ≡ run lt (entries ks vs) key
-  part_is key p q = ends vs s e (below lt ks key) (upto lt ks key) p q ∙ run_is o ks vs key up along
+  module _ (t : K → Bool) (n : ℕ) where
+    -- the keys from n on pass, and are greater than those that do not
+    module _ (ps : Parts (λ x. not (t x)) ks n) (apart : (x y : K) → t x ≡ false → t y ≡ true → lt x y ≡ true) where
+      fails : (k : ℕ) (d : K) → k < n → t (get_or ks k d) ≡ false
+      fails k d l = not-true (t (get_or ks k d)) (ps.before k d l)
 
-  chosen : (key : K) (c : Option K) → c ≡ Some key → s ≡ below lt ks key → e ≡ upto lt ks key → Some (between s e vs) ≡ handed lt (entries ks vs) c
-  chosen key c h p q = ap (λ ws. Some ws) (part_is key p q) ∙ sym (ap (handed lt (entries ks vs)) h)
+      first_found : (d : K) → n < length ks → ahead n ≡ handed lt (entries ks vs) (first_that t ks)
+      first_found d l =
+          let x : K = get_or ks n d in
+          let hit : t x ≡ true = not-false (t x) (ps.after n d (omega arith) l) in
+          let starts : n ≡ below lt ks x =
+          parted (λ y. lt y x) ks n
+          (record {
+            within = omega arith;
+            before = λ k d' m. apart (get_or ks k d') x (fails k d' m) hit;
+            after = λ k d' m b. ap (lt (get_or ks k d')) (get_or_default ks n d d' l) ∙ up n k d' m b;
+          }) in
+          ap (option_map (λ k. between n (upto lt ks k) vs)) (slice_get-get_or ks n d l)
+          ∙ ap (λ ws. Some ws) (part_is n (upto lt ks x) x starts refl)
+          ∙ sym (ap (handed lt (entries ks vs)) (first-at t ks n d l fails hit))
 
-  pub first_part : 0 < length ks → s ≡ 0 → ((d : K) → e ≡ upto lt ks (get_or ks 0 d)) → Some (between s e vs) ≡ handed lt (entries ks vs) (first_that (λ _. true) ks)
-  first_part h p q =
-      let d = some ks h in
-      chosen (get_or ks 0 d) (first_that (λ _. true) ks)
-      (first-at (λ _. true) ks 0 d h (λ k d' l. absurd (omega arith)) refl)
-      (p ∙ starts o ks up 0 d h (λ k d' l. absurd (omega arith)))
-      (q d)
+      pub first-handed : (i : ℕ) → i ≡ n → ahead i ≡ handed lt (entries ks vs) (first_that t ks)
+      first-handed i is =
+          ap ahead is
+          ∙ ⊎_elim (λ l. first_found (some ks (omega arith)) l)
+          (λ l.
+          ap (option_map (λ k. between n (upto lt ks k) vs)) (slice_get_past ks n l)
+          ∙ sym (ap (handed lt (entries ks vs)) (first-none t ks (λ k d m. fails k d (omega arith)))))
+          (cases_lt n (length ks))
 
-  pub last-part : 0 < length ks → ((d : K) → s ≡ below lt ks (get_or ks (length ks - 1) d)) → e ≡ length ks - 1 + 1 → Some (between s e vs) ≡ handed lt (entries ks vs) (last_that (λ _. true) ks)
-  last-part h p q =
-      let d = some ks h in
-      let n : ℕ = length ks - 1 in
-      chosen (get_or ks n d) (last_that (λ _. true) ks)
-      (last-at (λ _. true) ks n d (omega arith) (λ k d' l m. absurd (omega arith)) refl)
-      (p d)
-      (q ∙ stops o ks up n d (omega arith) (λ k d' l m. absurd (omega arith)))
+    -- the keys before n pass, and are less than those that do not
+    module _ (ps : Parts t ks n) (apart : (x y : K) → t x ≡ true → t y ≡ false → lt x y ≡ true) where
+      last_found : (d : K) → 0 < n → behind n ≡ handed lt (entries ks vs) (last_that t ks)
+      last_found d l =
+          let i : ℕ = n - 1 in
+          let w = ps.within in
+          let m = length-take-le n ks w in
+          let x : K = get_or ks i d in
+          let hit : t x ≡ true = ps.before i d (omega arith) in
+          let stops : n ≡ upto lt ks x =
+          parted (λ y. not (lt x y)) ks n
+          (record {
+            within = w;
+            before = λ k d' b. ap not (ap (λ y. lt y (get_or ks k d')) (get_or_default ks i d d' (omega arith)) ∙ up k i d' (omega arith) (omega arith));
+            after = λ k d' b c. ap not (apart x (get_or ks k d') hit (ps.after k d' b c));
+          }) in
+          ap (option_map (λ k. between (below lt ks k) n vs)) (slice_get-get_or (take n ks) i d (omega arith) ∙ ap (λ y. Some y) (get_or-take n ks i d (omega arith)))
+          ∙ ap (λ ws. Some ws) (part_is (below lt ks x) n x refl stops)
+          ∙ sym (ap (handed lt (entries ks vs)) (last-at t ks i d (omega arith) (λ k d' b c. ps.after k d' (omega arith) c) hit))
 
-  module _ (key : K) where
-    pub next-part : (i : ℕ) → i ≡ upto lt ks key → i < length ks → s ≡ i → ((d : K) → e ≡ upto lt ks (get_or ks i d)) → Some (between s e vs) ≡ handed lt (entries ks vs) (first_that (λ x. lt key x) ks)
-    next-part i is l p q =
-        let ps = upto-parts o ks key up in
-        let low : (k : ℕ) (d : K) → k < i → lt key (get_or ks k d) ≡ false = λ k d m. not-true (lt key (get_or ks k d)) (ps.before k d (omega arith)) in
-        let high : (d : K) → lt key (get_or ks i d) ≡ true = λ d. not-false (lt key (get_or ks i d)) (ps.after i d (omega arith) l) in
-        chosen (get_or ks i key) (first_that (λ x. lt key x) ks)
-        (first-at (λ x. lt key x) ks i key l low (high key))
-        (p ∙ starts o ks up i key l (λ k d m. chain o (get_or ks k d) key (get_or ks i d) (low k d m) (high d)))
-        (q key)
-
-    pub prev_part : (i : ℕ) → i + 1 ≡ below lt ks key → ((d : K) → s ≡ below lt ks (get_or ks i d)) → e ≡ i + 1 → Some (between s e vs) ≡ handed lt (entries ks vs) (last_that (λ x. lt x key) ks)
-    prev_part i is p q =
-        let ps = below_parts o ks key up in
-        let w = ps.within in
-        let l : i < length ks = omega arith in
-        let low : (d : K) → lt (get_or ks i d) key ≡ true = λ d. ps.before i d (omega arith) in
-        let high : (k : ℕ) (d : K) → i < k → k < length ks → lt (get_or ks k d) key ≡ false = λ k d m n. ps.after k d (omega arith) n in
-        chosen (get_or ks i key) (last_that (λ x. lt x key) ks)
-        (last-at (λ x. lt x key) ks i key l high (low key))
-        (p key)
-        (q ∙ stops o ks up i key l (λ k d m n. chain_on o (get_or ks i d) key (get_or ks k d) (low d) (high k d m n)))
-
-module _ {K V : Type 0} {lt : K → K → Bool} (o : Total lt) (ks : List K) (vs : List V) (up : Sorted lt ks) where
-  pub first-no : length ks ≡ 0 → None ≡ handed lt (entries ks vs) (first_that (λ _. true) ks)
-  first-no e = sym (ap (handed lt (entries ks vs)) (first-none (λ _. true) ks (λ k d l. absurd (omega arith))))
-
-  pub last-no : length ks ≡ 0 → None ≡ handed lt (entries ks vs) (last_that (λ _. true) ks)
-  last-no e = sym (ap (handed lt (entries ks vs)) (last_none (λ _. true) ks (λ k d l. absurd (omega arith))))
-
-  pub next-no : (key : K) → length ks ≤ upto lt ks key → None ≡ handed lt (entries ks vs) (first_that (λ x. lt key x) ks)
-  next-no key e =
-      let ps = upto-parts o ks key up in
-      sym (ap (handed lt (entries ks vs)) (first-none (λ x. lt key x) ks (λ k d l. not-true (lt key (get_or ks k d)) (ps.before k d (omega arith)))))
-
-  pub prev_no : (key : K) → 0 ≡ below lt ks key → None ≡ handed lt (entries ks vs) (last_that (λ x. lt x key) ks)
-  prev_no key e =
-      let ps = below_parts o ks key up in
-      sym (ap (handed lt (entries ks vs)) (last_none (λ x. lt x key) ks (λ k d l. ps.after k d (omega arith) l)))
-
--- what a caller learns from each answer
-pub handed-none : {K V : Type 0} (lt : K → K → Bool) (es : List (Entry K V)) (c : Option K) → None ≡ handed lt es c → c ≡ None
-handed-none lt es None e = refl
-handed-none lt es (Some k) e = cc
-
-pub handed-some : {K V : Type 0} (lt : K → K → Bool) (es : List (Entry K V)) (c : Option K) (part : List V) → Some part ≡ handed lt es c → (k : K) × (c ≡ Some k) × (part ≡ run lt es k)
-handed-some lt es None part e = absurd (let z : ◌≡◌ {A = ℕ} 0 1 = cc in omega arith)
-handed-some lt es (Some k) part e = (k, refl, cc)
+      pub last-handed : (i : ℕ) → i ≡ n → behind i ≡ handed lt (entries ks vs) (last_that t ks)
+      last-handed i is =
+          ap behind is
+          ∙ ⊎_elim (λ l. let w = ps.within in last_found (some ks (omega arith)) l)
+          (λ l.
+          let z : n ≡ 0 = omega arith in
+          ap behind z ∙ sym (ap (handed lt (entries ks vs)) (last_none t ks (λ k d m. ps.after k d (omega arith) m))))
+          (cases_lt 0 n)

@@ -1,33 +1,53 @@
--- What a comparison with the key at i tells of the two bounds. Assumes nothing.
-use Rattle.std.proofs.Common.{◌≡◌, ℕ, ◌<◌, ◌≤◌, Bool, true, false, not, List, length, get_or, sym, ap, ◌∙◌, ⊎_elim}
-use Rattle.std.proofs.lemmas.List.{get_or_read}
+-- How many keys pass a test that the first of them pass, as the searches find it. Assumes nothing.
+use Rattle.std.proofs.Common.{◌≡◌, ℕ, ◌+◌, ◌-◌, ◌<◌, ◌≤◌, Bool, true, false, not, List, length, get_or, take, drop, ap, ◌∙◌, Bor, arith, zero-le, ⊎_elim}
+use Rattle.std.specs.Fn.{Called, ComputesKey}
+use Rattle.std.specs.List.{prefix_len, suffix_len}
+use Rattle.std.specs.List.Sorted.{IsPartitionedBy, IsPartitionPoint}
 use Rattle.std.proofs.lemmas.Bool.{cases_lt, both_ways}
+use Rattle.std.proofs.lemmas.List.{get_or-take, get_or-drop, length-drop, length-take-le}
+use Rattle.std.proofs.lemmas.List.Sorted.{IsPartitionPoint-from_clause}
+use Rattle.std.proofs.lemmas.List.Sums.{prefix_len_is, suffix_len_is}
 use Rattle.keys.specs.Order.{Total}
-use Rattle.contents.specs.Sorted.{Sorted, below, upto}
-use Rattle.contents.proofs.Bounds.{Parts, below_parts, upto-parts}
+use Rattle.contents.specs.Sorted.{Sorted, count, below, upto}
+use Rattle.contents.proofs.Bounds.{Parts, parted, below_parts, upto-parts}
+use denote.Param.Members.{Mut}
 
-module _ {K : Type 0} (t : K → Bool) (ks : List K) (n : ℕ) (ps : Parts t ks n) (i : ℕ) (x : K) (within : i < length ks) (read : x ≡ get_or ks i x) where
-  -- a key that passes stands before the index that parts them
-  passed : t x ≡ true → i < n
-  passed e = ⊎_elim (λ l. l) (λ m. absurd (both_ways (t x) (ap t read ∙ ps.after i x m within) e)) (cases_lt i n)
+module _ {K : Type 0} (t : K → Bool) (ks : List K) where
+  -- by halves: what `partition_point` says, where each call of its closure gives the test
+  pub halved : {F : Type 0} {g : Mut F (Bor K × Unit {0}) Bool} {f : F} (n : ℕ) → Parts t ks (count t ks) → n ≤ length ks → ((q : K → Bool) → ComputesKey g q f → IsPartitionedBy q ks → IsPartitionPoint (λ y. q y ≡ true) (λ y. q y ≡ false) ks n) → ((a : Bor K × Unit {0}) (r : Bool) (f' : F) → Called g f a r f' → (r ≡ t a.0.now) × (f' ≡ f)) → n ≡ count t ks
+  halved n ps within says calls =
+      let point =
+      IsPartitionPoint-from_clause t ks n says
+      (λ i j d le l e. ⊎_elim (λ m. ps.before i d m) (λ m. absurd (both_ways (t (get_or ks j d)) (ps.after j d (omega arith) l) e)) (cases_lt i (count t ks)))
+      calls in
+      parted t ks n (record { within = within; before = λ k d l. point.0 k d zero-le l; after = point.1 })
 
-  -- and one that does not, behind it
-  failed : t x ≡ false → n ≤ i
-  failed e = ⊎_elim (λ l. absurd (both_ways (t x) e (ap t read ∙ ps.before i x l))) (λ m. m) (cases_lt i n)
+  module _ (n : ℕ) (ps : Parts t ks n) (i : ℕ) (d : K) where
+    -- forward from a place among those that pass
+    pub scanned : i ≤ n → i + prefix_len t (drop i ks) ≡ n
+    scanned le =
+        let w = ps.within in
+        let m = length-drop i ks in
+        let e : prefix_len t (drop i ks) ≡ n - i =
+        prefix_len_is t (drop i ks) (n - i) d (omega arith)
+        (λ k l. ap t (get_or-drop i ks k d) ∙ ps.before (i + k) d (omega arith))
+        (λ l. ap t (get_or-drop i ks (n - i) d) ∙ ps.after (i + (n - i)) d (omega arith) (omega arith)) in
+        omega arith
 
-module _ {K : Type 0} {lt : K → K → Bool} (o : Total lt) (ks : List K) (up : Sorted lt ks) (i : ℕ) (x : K) (within : i < length ks) (read : x ≡ get_or ks i x) where
-  pub less : (key : K) → true ≡ lt x key → i < below lt ks key
-  less key e = passed (λ y. lt y key) ks (below lt ks key) (below_parts o ks key up) i x within read (sym e)
+    -- backward from a place among those that do not
+    pub scanned_back : n ≤ i → i ≤ length ks → i - suffix_len (λ x. not (t x)) (take i ks) ≡ n
+    scanned_back le w =
+        let m = length-take-le i ks w in
+        let e : suffix_len (λ x. not (t x)) (take i ks) ≡ length (take i ks) - n =
+        suffix_len_is (λ x. not (t x)) (take i ks) n d (omega arith)
+        (λ k a b. ap (λ x. not (t x)) (get_or-take i ks k d (omega arith)) ∙ ap not (ps.after k d a (omega arith)))
+        (λ l. ap (λ x. not (t x)) (get_or-take i ks (n - 1) d (omega arith)) ∙ ap not (ps.before (n - 1) d (omega arith))) in
+        omega arith
 
-  pub not_less : (key : K) → false ≡ lt x key → below lt ks key ≤ i
-  not_less key e = failed (λ y. lt y key) ks (below lt ks key) (below_parts o ks key up) i x within read (sym e)
-
-  pub greater : (key : K) → true ≡ lt key x → upto lt ks key ≤ i
-  greater key e = failed (λ y. not (lt key y)) ks (upto lt ks key) (upto-parts o ks key up) i x within read (ap not (sym e))
-
-  pub not_greater : (key : K) → false ≡ lt key x → i < upto lt ks key
-  not_greater key e = passed (λ y. not (lt key y)) ks (upto lt ks key) (upto-parts o ks key up) i x within read (ap not (sym e))
-
--- what is known of the key that was read at i, at any default
-pub at-any : {K : Type 0} (F : K → ℕ) (ks : List K) (i : ℕ) (x : K) (n : ℕ) → i < length ks → x ≡ get_or ks i x → n ≡ F x → (d : K) → n ≡ F (get_or ks i d)
-at-any F ks i x n within read e d = e ∙ ap F (get_or_read ks i x within read d)
+-- a key stands between its own two bounds
+pub between_bounds : {K : Type 0} {lt : K → K → Bool} → Total lt → (ks : List K) → Sorted lt ks → (i : ℕ) (d : K) → i < length ks → (below lt ks (get_or ks i d) ≤ i) × (i < upto lt ks (get_or ks i d))
+between_bounds {lt = lt} o ks up i d within =
+    let x = get_or ks i d in (
+      ⊎_elim (λ l. absurd (both_ways (lt x x) (o.irrefl x) ((below_parts o ks x up).before i d l))) (λ m. m) (cases_lt i (below lt ks x)),
+      ⊎_elim (λ l. l) (λ m. absurd (both_ways (not (lt x x)) ((upto-parts o ks x up).after i d m within) (ap not (o.irrefl x)))) (cases_lt i (upto lt ks x)),
+    )

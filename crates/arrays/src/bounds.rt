@@ -6,95 +6,78 @@ ghost use Rattle.contents.specs.Sorted.{Sorted, below, upto};
 use keys::Key;
 use std::ops::Range;
 
-// The index of the first key that is not less than `key`.
-pub fn lower_bound<K: Key>(keys: &[K], key: &K) -> usize
-    requires { Sorted (before K.cmp) keys.now }
-    ensures { result ≡ below (before K.cmp) keys.now key.now }
-{
-    let mut low = 0;
-    let mut high = keys.len();
-    while low < high {
-        let mid = low + (high - low) / 2;
-        if keys[mid].less(key) {
-            low = mid + 1;
-        } else {
-            high = mid;
-        }
+// A slice of keys in rising order.
+#[derive(Drop)]
+pub struct Keys<'a, K: Key> {
+    keys: &'a [K],
+    ghost sorted: { Sorted (before K.cmp) keys.now },
+}
+
+impl<'a, K: Key> Keys<'a, K> {
+    pub fn new(keys: &'a [K]) -> Keys<'a, K>
+        requires { Sorted (before K.cmp) keys.now }
+        ensures { result.keys.now ≡ keys.now }
+    {
+        Keys { keys }
     }
-    low
-}
 
-// The index of the first key that is greater than `key`.
-pub fn upper_bound<K: Key>(keys: &[K], key: &K) -> usize
-    requires { Sorted (before K.cmp) keys.now }
-    ensures { result ≡ upto (before K.cmp) keys.now key.now }
-{
-    let mut low = 0;
-    let mut high = keys.len();
-    while low < high {
-        let mid = low + (high - low) / 2;
-        if key.less(&keys[mid]) {
-            high = mid;
-        } else {
-            low = mid + 1;
-        }
+    // The index of the first key that is not less than `key`.
+    pub fn lower_bound(&self, key: &K) -> usize
+        ensures { result ≡ below (before K.cmp) self.now.keys.now key.now }
+    {
+        self.keys.partition_point(|k| k.less(key))
     }
-    low
-}
 
-// Where the keys that are not greater than `key` end, by a scan forward from `from`.
-fn run_end<K: Key>(keys: &[K], from: usize, key: &K) -> usize
-    requires sorted { Sorted (before K.cmp) keys.now }
-    requires from { from ≤ upto (before K.cmp) keys.now key.now }
-    ensures { result ≡ upto (before K.cmp) keys.now key.now }
-{
-    let mut end = from;
-    while end < keys.len() && !key.less(&keys[end]) {
-        end += 1;
+    // The index of the first key that is greater than `key`.
+    pub fn upper_bound(&self, key: &K) -> usize
+        ensures { result ≡ upto (before K.cmp) self.now.keys.now key.now }
+    {
+        self.keys.partition_point(|k| !key.less(k))
     }
-    end
-}
 
-// The rest of the run of the key at `idx`, from there on (scans forward only).
-pub fn run_starting_at<K: Key>(keys: &[K], idx: usize) -> Range<usize>
-    requires sorted { Sorted (before K.cmp) keys.now }
-    requires within { idx < length keys.now }
-    ensures start { result.start ≡ idx }
-    ensures end { (d : K) → result.end ≡ upto (before K.cmp) keys.now (slice_index_or keys.now idx d) }
-    ensures ordered { result.start ≤ result.end }
-    ensures within { result.end ≤ length keys.now }
-{
-    let key = keys[idx];
-    let end = run_end(keys, idx + 1, &key);
-    idx..end
-}
-
-// The run of the key at `idx`, up to there (scans backward only).
-pub fn run_ending_at<K: Key>(keys: &[K], idx: usize) -> Range<usize>
-    requires sorted { Sorted (before K.cmp) keys.now }
-    requires within { idx < length keys.now }
-    ensures start { (d : K) → result.start ≡ below (before K.cmp) keys.now (slice_index_or keys.now idx d) }
-    ensures end { result.end ≡ idx + 1 }
-    ensures ordered { result.start ≤ result.end }
-    ensures within { result.end ≤ length keys.now }
-{
-    let key = keys[idx];
-    let mut start = idx;
-    while start > 0 && !keys[start - 1].less(&key) {
-        start -= 1;
+    // The keys from `from` on that are not greater than `key` (scans forward only).
+    fn run_on(&self, from: usize, key: &K) -> Range<usize>
+        requires { from ≤ upto (before K.cmp) self.now.keys.now key.now }
+        ensures start { result.start ≡ from }
+        ensures end { result.end ≡ upto (before K.cmp) self.now.keys.now key.now }
+        ensures ordered { result.start ≤ result.end }
+        ensures within { result.end ≤ length self.now.keys.now }
+    {
+        let rest = &self.keys[from..];
+        from..from + rest.iter().take_while(|k| !key.less(k)).count()
     }
-    start..idx + 1
-}
 
-// The run of `key`, empty where there is none.
-pub fn run_range<K: Key>(keys: &[K], key: &K) -> Range<usize>
-    requires { Sorted (before K.cmp) keys.now }
-    ensures start { result.start ≡ below (before K.cmp) keys.now key.now }
-    ensures end { result.end ≡ upto (before K.cmp) keys.now key.now }
-    ensures ordered { result.start ≤ result.end }
-    ensures within { result.end ≤ length keys.now }
-{
-    let start = lower_bound(keys, key);
-    let end = run_end(keys, start, key);
-    start..end
+    // The rest of the run of the key at `idx`, from there on (scans forward only).
+    pub fn run_starting_at(&self, idx: usize) -> Range<usize>
+        requires { idx < length self.now.keys.now }
+        ensures start { result.start ≡ idx }
+        ensures end { (d : K) → result.end ≡ upto (before K.cmp) self.now.keys.now (slice_index_or self.now.keys.now idx d) }
+        ensures ordered { result.start ≤ result.end }
+        ensures within { result.end ≤ length self.now.keys.now }
+    {
+        self.run_on(idx, &self.keys[idx])
+    }
+
+    // The run of the key at `idx`, up to there (scans backward only).
+    pub fn run_ending_at(&self, idx: usize) -> Range<usize>
+        requires { idx < length self.now.keys.now }
+        ensures start { (d : K) → result.start ≡ below (before K.cmp) self.now.keys.now (slice_index_or self.now.keys.now idx d) }
+        ensures end { result.end ≡ idx + 1 }
+        ensures ordered { result.start ≤ result.end }
+        ensures within { result.end ≤ length self.now.keys.now }
+    {
+        let key = &self.keys[idx];
+        let earlier = self.keys[..idx].iter().rev();
+        idx - earlier.take_while(|k| !k.less(key)).count()..idx + 1
+    }
+
+    // The run of `key`, empty where there is none.
+    pub fn run_range(&self, key: &K) -> Range<usize>
+        ensures start { result.start ≡ below (before K.cmp) self.now.keys.now key.now }
+        ensures end { result.end ≡ upto (before K.cmp) self.now.keys.now key.now }
+        ensures ordered { result.start ≤ result.end }
+        ensures within { result.end ≤ length self.now.keys.now }
+    {
+        self.run_on(self.lower_bound(key), key)
+    }
 }

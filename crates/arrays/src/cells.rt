@@ -8,11 +8,7 @@ pub fn insert_at<T: Copy>(cells: &mut [T], len: usize, idx: usize, x: T)
     requires within { idx ≤ len }
     ensures { cells.new ≡ put_at cells.old len idx x }
 {
-    let mut i = len;
-    while i > idx {
-        cells[i] = cells[i - 1];
-        i -= 1;
-    }
+    cells[idx..len + 1].rotate_right(1);
     cells[idx] = x;
 }
 
@@ -24,10 +20,8 @@ pub fn remove_run<T: Copy>(cells: &mut [T], len: usize, start: usize, end: usize
     ensures { cells.new ≡ cut cells.old len start end }
 {
     let gap = end - start;
-    let mut i = end;
-    while i < len {
+    for i in end..len {
         cells[i - gap] = cells[i];
-        i += 1;
     }
 }
 

@@ -5,6 +5,6 @@ mod bounds;
 mod cells;
 mod runs;
 
-pub use bounds::{lower_bound, run_ending_at, run_range, run_starting_at, upper_bound};
+pub use bounds::Keys;
 pub use cells::{insert_at, remove_at, remove_run, set, value_at};
-pub use runs::{first_values, last_values, next_values_after, prev_values_before, values};
+pub use runs::Runs;

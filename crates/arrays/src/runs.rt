@@ -1,76 +1,88 @@
 // Runs handed out: the part of the caller's own slice of values, which stand alongside the keys.
-ghost use Rattle.std.specs.Prelude.{◌≡◌, true, length};
+ghost use Rattle.std.specs.Prelude.{◌≡◌, ◌-◌, ◌≤◌, true, length, take, slice_get};
 ghost use Rattle.std.specs.Option.{option_map};
+ghost use Rattle.std.specs.List.{between};
 ghost use Rattle.keys.specs.Order.{before};
-ghost use Rattle.contents.specs.Sorted.{Sorted};
+ghost use Rattle.contents.specs.Sorted.{Sorted, below, upto};
 ghost use Rattle.contents.specs.Entries.{entries, run, first_that, last_that};
 ghost use Rattle.arrays.specs.Handed.{handed};
 
-use crate::bounds::{lower_bound, run_ending_at, run_range, run_starting_at, upper_bound};
+use crate::bounds::Keys;
 use keys::Key;
-use std::ops::Range;
 
-// The values of `key` (none where it is absent).
-pub fn values<'a, K: Key, V>(keys: &[K], values: &'a [V], key: &K) -> &'a [V]
-    requires sorted { Sorted (before K.cmp) keys.now }
-    requires alongside { length keys.now ≡ length values.now }
-    ensures { result.now ≡ run (before K.cmp) (entries keys.now values.now) key.now }
-{
-    let Range { start, end } = run_range(keys, key);
-    &values[start..end]
+// Keys in rising order with a value beside each.
+#[derive(Drop)]
+pub struct Runs<'a, K: Key, V> {
+    keys: Keys<'a, K>,
+    values: &'a [V],
+    ghost alongside: { length keys.keys.now ≡ length values.now },
 }
 
-// The values of the least key.
-pub fn first_values<'a, K: Key, V>(keys: &[K], values: &'a [V]) -> Option<&'a [V]>
-    requires sorted { Sorted (before K.cmp) keys.now }
-    requires alongside { length keys.now ≡ length values.now }
-    ensures { option_map (λ s. s.now) result ≡ handed (before K.cmp) (entries keys.now values.now) (first_that (λ _. true) keys.now) }
-{
-    if keys.len() == 0 {
-        return None;
+impl<'a, K: Key, V> Runs<'a, K, V> {
+    pub fn new(keys: &'a [K], values: &'a [V]) -> Runs<'a, K, V>
+        requires sorted { Sorted (before K.cmp) keys.now }
+        requires alongside { length keys.now ≡ length values.now }
+        ensures keys { result.keys.keys.now ≡ keys.now }
+        ensures values { result.values.now ≡ values.now }
+    {
+        Runs {
+            keys: Keys::new(keys),
+            values,
+        }
     }
-    let Range { start, end } = run_starting_at(keys, 0);
-    Some(&values[start..end])
-}
 
-// The values of the greatest key.
-pub fn last_values<'a, K: Key, V>(keys: &[K], values: &'a [V]) -> Option<&'a [V]>
-    requires sorted { Sorted (before K.cmp) keys.now }
-    requires alongside { length keys.now ≡ length values.now }
-    ensures { option_map (λ s. s.now) result ≡ handed (before K.cmp) (entries keys.now values.now) (last_that (λ _. true) keys.now) }
-{
-    let len = keys.len();
-    if len == 0 {
-        return None;
+    // The run of the key at `idx` from there on, if a key stands there.
+    fn run_from(&self, idx: usize) -> Option<&'a [V]>
+        ensures { option_map (λ s. s.now) result ≡ option_map (λ k. between idx (upto (before K.cmp) self.now.keys.keys.now k) self.now.values.now) (slice_get self.now.keys.keys.now idx) }
+    {
+        if idx < self.values.len() {
+            Some(&self.values[self.keys.run_starting_at(idx)])
+        } else {
+            None
+        }
     }
-    let Range { start, end } = run_ending_at(keys, len - 1);
-    Some(&values[start..end])
-}
 
-// The values of the least key that is greater than `key`.
-pub fn next_values_after<'a, K: Key, V>(keys: &[K], values: &'a [V], key: &K) -> Option<&'a [V]>
-    requires sorted { Sorted (before K.cmp) keys.now }
-    requires alongside { length keys.now ≡ length values.now }
-    ensures { option_map (λ s. s.now) result ≡ handed (before K.cmp) (entries keys.now values.now) (first_that (λ x. before K.cmp key.now x) keys.now) }
-{
-    let idx = upper_bound(keys, key);
-    if idx >= keys.len() {
-        return None;
+    // The run of the key before `idx` up to there, if a key stands before it.
+    fn run_before(&self, idx: usize) -> Option<&'a [V]>
+        requires { idx ≤ length self.now.keys.keys.now }
+        ensures { option_map (λ s. s.now) result ≡ option_map (λ k. between (below (before K.cmp) self.now.keys.keys.now k) idx self.now.values.now) (slice_get (take idx self.now.keys.keys.now) (idx - 1)) }
+    {
+        let last = idx.checked_sub(1)?;
+        Some(&self.values[self.keys.run_ending_at(last)])
     }
-    let Range { start, end } = run_starting_at(keys, idx);
-    Some(&values[start..end])
-}
 
-// The values of the greatest key that is less than `key`.
-pub fn prev_values_before<'a, K: Key, V>(keys: &[K], values: &'a [V], key: &K) -> Option<&'a [V]>
-    requires sorted { Sorted (before K.cmp) keys.now }
-    requires alongside { length keys.now ≡ length values.now }
-    ensures { option_map (λ s. s.now) result ≡ handed (before K.cmp) (entries keys.now values.now) (last_that (λ x. before K.cmp x key.now) keys.now) }
-{
-    let idx = lower_bound(keys, key);
-    if idx == 0 {
-        return None;
+    // The values of `key` (none where it is absent).
+    pub fn values(&self, key: &K) -> &'a [V]
+        ensures { result.now ≡ run (before K.cmp) (entries self.now.keys.keys.now self.now.values.now) key.now }
+    {
+        &self.values[self.keys.run_range(key)]
     }
-    let Range { start, end } = run_ending_at(keys, idx - 1);
-    Some(&values[start..end])
+
+    // The values of the least key.
+    pub fn first_values(&self) -> Option<&'a [V]>
+        ensures { option_map (λ s. s.now) result ≡ handed (before K.cmp) (entries self.now.keys.keys.now self.now.values.now) (first_that (λ _. true) self.now.keys.keys.now) }
+    {
+        self.run_from(0)
+    }
+
+    // The values of the greatest key.
+    pub fn last_values(&self) -> Option<&'a [V]>
+        ensures { option_map (λ s. s.now) result ≡ handed (before K.cmp) (entries self.now.keys.keys.now self.now.values.now) (last_that (λ _. true) self.now.keys.keys.now) }
+    {
+        self.run_before(self.values.len())
+    }
+
+    // The values of the least key that is greater than `key`.
+    pub fn next_values_after(&self, key: &K) -> Option<&'a [V]>
+        ensures { option_map (λ s. s.now) result ≡ handed (before K.cmp) (entries self.now.keys.keys.now self.now.values.now) (first_that (λ x. before K.cmp key.now x) self.now.keys.keys.now) }
+    {
+        self.run_from(self.keys.upper_bound(key))
+    }
+
+    // The values of the greatest key that is less than `key`.
+    pub fn prev_values_before(&self, key: &K) -> Option<&'a [V]>
+        ensures { option_map (λ s. s.now) result ≡ handed (before K.cmp) (entries self.now.keys.keys.now self.now.values.now) (last_that (λ x. before K.cmp x key.now) self.now.keys.keys.now) }
+    {
+        self.run_before(self.keys.lower_bound(key))
+    }
 }

@@ -1,9 +1,6 @@
-use Rattle.std.proofs.Common.{◌≡◌, ◌-◌, ◌≤◌}
+use Rattle.std.proofs.Common.{◌≡◌}
 use Rattle.arrays.specs.Cells.{cut}
 use Rattle.arrays.proofs.cells.remove_run.Given as goal
 
 abbrev pub invariant-loop-i : goal.invariant-loop-i
-invariant-loop-i g l = (l.end ≤ l.i) × (l.i ≤ l.len) × (l.cells ≡ cut l.initial.cells l.i l.start l.end)
-
-abbrev pub decreases-loop-i : goal.decreases-loop-i
-decreases-loop-i g l = l.len - l.i
+invariant-loop-i g l = l.cells ≡ cut l.initial.cells l.i l.start l.end
