@@ -1,20 +1,11 @@
 -- The steps of the move down in `remove_run`: after the cell i, what stands is the cut of the first i cells. Assumes nothing.
 use Rattle.std.proofs.Common.{◌≡◌, ℕ, ◌+◌, ◌-◌, ◌<◌, ◌≤◌, List, [], ◌∷◌, ◌++◌, length, get_or, take, drop, set, sym, ap, ◌∙◌, arith}
 use Rattle.std.specs.List.{between}
-use Rattle.std.proofs.lemmas.List.{take-append-drop, drop_more, append_assoc, append-nil, set_at, get_or-append_right, get_or-drop, length-append, length-take-le}
-use Rattle.std.proofs.lemmas.List.Edits.{between_none, between_more, length-between}
+use Rattle.std.proofs.lemmas.List.{drop_more, append_assoc, set_at, get_or-append_right, get_or-drop, length-append, length-take-le}
+use Rattle.std.proofs.lemmas.List.Edits.{between_more, length-between}
 use Rattle.arrays.specs.Cells.{cut}
 
 module _ {X : Type 0} (xs : List X) (s e : ℕ) (le : s ≤ e) where
-  pub cut-none : xs ≡ cut xs e s e
-  cut-none =
-      let n : e - (e - s) ≡ s = omega arith in
-      sym
-      (ap (λ ys. (take s xs ++ ys) ++ drop (e - (e - s)) xs) (between_none xs e)
-      ∙ ap (λ ys. ys ++ drop (e - (e - s)) xs) (append-nil (take s xs))
-      ∙ ap (λ m. take s xs ++ drop m xs) n
-      ∙ take-append-drop s xs)
-
   -- how many cells stand before those that keep what they held
   pub length-kept : (i : ℕ) → e ≤ i → i ≤ length xs → length (take s xs ++ between e i xs) ≡ i - (e - s)
   length-kept i from room =

@@ -7,5 +7,5 @@ pub returns : goal.returns
 returns g c =
     let s = c.args.self.now in
     c.run_from.ensures
-    ∙ first-handed (total g.met.K.Key.lawful) s.keys.keys.now s.values.now s.keys.sorted s.alongside (λ _. true) 0
-    (record { within = zero-le; before = λ k d l. absurd (omega arith); after = λ k d l m. refl }) (λ x y f h. absurd (true≢false f)) 0 refl
+    ∙ first-handed (total g.met.K.Key.lawful) s.keys.keys.now s.values.now s.keys.sorted s.alongside (λ _. true) 0 0 refl
+    (record { within = zero-le; before = λ k d l. absurd (omega arith); after = λ k d l m. refl }) (λ x y f h. absurd (true≢false f))

@@ -7,5 +7,5 @@ pub returns : goal.returns
 returns g c =
     let s = c.args.self.now in
     c.run_before.ensures
-    ∙ last-handed (total g.met.K.Key.lawful) s.keys.keys.now s.values.now s.keys.sorted s.alongside (λ _. true) (length s.keys.keys.now)
-    (record { within = omega arith; before = λ k d l. refl; after = λ k d l m. absurd (omega arith) }) (λ x y h f. absurd (true≢false f)) (length s.values.now) (sym s.alongside)
+    ∙ last-handed (total g.met.K.Key.lawful) s.keys.keys.now s.values.now s.keys.sorted s.alongside (λ _. true) (length s.keys.keys.now) (length s.values.now)
+    (sym s.alongside) (record { within = omega arith; before = λ k d l. refl; after = λ k d l m. absurd (omega arith) }) (λ x y h f. absurd (true≢false f))

@@ -1,7 +1,6 @@
 use Rattle.std.proofs.Common.{◌∙◌}
 use Rattle.keys.specs.Order.{before}
 use Rattle.keys.proofs.Tests.{total}
-use Rattle.contents.specs.Sorted.{upto}
 use Rattle.contents.proofs.Order.{chain}
 use Rattle.contents.proofs.Bounds.{upto-parts}
 use Rattle.arrays.proofs.Handing.{first-handed}
@@ -14,5 +13,5 @@ returns g c =
     let key = c.args.key.now in
     let o = total g.met.K.Key.lawful in
     c.run_from.ensures
-    ∙ first-handed o ks s.values.now s.keys.sorted s.alongside (λ x. before g.K.Ord.cmp key x) (upto (before g.K.Ord.cmp) ks key)
-    (upto-parts o ks key s.keys.sorted) (λ x y. chain o x key y) c.upper_bound.result c.upper_bound.ensures
+    ∙ first-handed o ks s.values.now s.keys.sorted s.alongside (λ x. before g.K.Ord.cmp key x) _ c.upper_bound.result c.upper_bound.ensures
+    (upto-parts o ks key s.keys.sorted) (λ x y. chain o x key y)

@@ -1,7 +1,6 @@
 use Rattle.std.proofs.Common.{◌∙◌, arith}
 use Rattle.keys.specs.Order.{before}
 use Rattle.keys.proofs.Tests.{total}
-use Rattle.contents.specs.Sorted.{below}
 use Rattle.contents.proofs.Order.{chain_on}
 use Rattle.contents.proofs.Bounds.{below_parts}
 use Rattle.arrays.proofs.Handing.{last-handed}
@@ -20,5 +19,5 @@ returns g c =
     let key = c.args.key.now in
     let o = total g.met.K.Key.lawful in
     c.run_before.ensures
-    ∙ last-handed o ks s.values.now s.keys.sorted s.alongside (λ x. before g.K.Ord.cmp x key) (below (before g.K.Ord.cmp) ks key)
-    (below_parts o ks key s.keys.sorted) (λ x y. chain_on o x key y) c.lower_bound.result c.lower_bound.ensures
+    ∙ last-handed o ks s.values.now s.keys.sorted s.alongside (λ x. before g.K.Ord.cmp x key) _ c.lower_bound.result c.lower_bound.ensures
+    (below_parts o ks key s.keys.sorted) (λ x y. chain_on o x key y)
