@@ -7,7 +7,7 @@ ghost use Rattle.contents.specs.Sorted.{Sorted};
 ghost use Rattle.layout.specs.Windows.{spot, ahead, used, Sorts};
 
 use crate::layout::Layout;
-use arrays::{lower_bound, upper_bound, values};
+use arrays::{Keys, Runs};
 use keys::{Key, Place};
 
 // Windows that are read: keys and values alongside, and how many of each window are in use.
@@ -57,7 +57,7 @@ impl<'a, K: Key, V: Copy> Cells<'a, K, V> {
     {
         let keys = self.used(place.partition);
         let cells = self.layout.used(self.values, self.lengths, place.partition);
-        let run = values(keys, cells, &place.key);
+        let run = Runs::new(keys, cells).values(&place.key);
         run.get(offset as usize).copied()
     }
 
@@ -89,7 +89,8 @@ impl<'a, K: Key, V: Copy> Cells<'a, K, V> {
         ensures { result ≡ next_in K.cmp (meaning self.now) place.now }
     {
         let used = self.used(place.partition);
-        place_at(used, place.partition, upper_bound(used, &place.key))
+        let next = Keys::new(used).upper_bound(&place.key);
+        place_at(used, place.partition, next)
     }
 
     // The greatest place before a place, in its partition.
@@ -97,7 +98,8 @@ impl<'a, K: Key, V: Copy> Cells<'a, K, V> {
         ensures { result ≡ previous_in K.cmp (meaning self.now) place.now }
     {
         let used = self.used(place.partition);
-        place_before(used, place.partition, lower_bound(used, &place.key))
+        let bound = Keys::new(used).lower_bound(&place.key);
+        place_before(used, place.partition, bound)
     }
 
     // How many cells of a partition are not in use.

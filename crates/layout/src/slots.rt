@@ -2,7 +2,7 @@
 ghost use Rattle.layout.specs.Windows.{Keyed, Ranged, PutSlot, HeldSlot};
 
 use crate::layout::Layout;
-use arrays::run_range;
+use arrays::Keys;
 use keys::{Key, Place};
 use std::ops::Range;
 use store::Refusal;
@@ -13,7 +13,7 @@ impl Layout {
         requires { Keyed K.cmp keys.now lengths.now self.window self.partitions }
         ensures { Ranged K.cmp keys.now lengths.now self.window self.partitions place.now result.start result.end }
     {
-        run_range(self.used(keys, lengths, place.partition), &place.key)
+        Keys::new(self.used(keys, lengths, place.partition)).run_range(&place.key)
     }
 
     // How many cells of the partition are in use, and in which of them a value put at an offset of the run goes.

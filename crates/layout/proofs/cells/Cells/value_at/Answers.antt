@@ -11,4 +11,4 @@ returns g c =
     read
     ∙ ap (λ xs. slice_get xs c.args.offset)
     (run-code g.met.K.Key.lawful t.keys.now t.values.now t.lengths.now t.layout.window t.layout.partitions t.sorts c.args.place.now
-    c.used-keys.result.now c.used-cells.result.now c.values-run.result.now c.used-keys.ensures.is c.used-cells.ensures c.values-run.ensures)
+    c.new.result.keys.keys.now c.new.result.values.now c.values-run.result.now (c.new.ensures.keys ∙ c.used-keys.ensures.is) (c.new.ensures.values ∙ c.used-cells.ensures) c.values-run.ensures)
