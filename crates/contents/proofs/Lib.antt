@@ -5,3 +5,5 @@ pub mod Counts
 pub mod Amounts
 pub mod Merged
 pub mod Near
+pub mod Gaps
+pub mod Alongside

@@ -1,9 +1,10 @@
 -- The first and the last place of a partition, in a sorted list of places. Assumes nothing.
-use Rattle.std.proofs.Common.{◌≡◌, ℕ, ◌+◌, ◌<◌, ◌≤◌, Bool, true, false, cond, ◌&&◌, ltb, leb, List, [], ◌∷◌, length, get_or, take, drop, Some, None, Ordering, Less, Equal, Greater, sym, refl, ap, ◌∙◌, ⊎_elim, true≢false, arith}
+use Rattle.std.proofs.Common.{◌≡◌, ℕ, ◌+◌, ◌-◌, ◌<◌, ◌≤◌, Bool, true, false, cond, ◌&&◌, ltb, leb, List, [], ◌∷◌, length, get_or, take, drop, Some, None, Ordering, Less, Equal, Greater, sym, refl, ap, ◌∙◌, ⊎_elim, true≢false, arith}
 use Rattle.std.specs.Cmp.{ranks}
 use Rattle.std.specs.Ordering.{ordering_then, is_lt, MatchOrdering, nat_cmp}
-use Rattle.std.proofs.lemmas.List.{drop_more, drop_all, get_or_default}
-use Rattle.std.proofs.lemmas.Bool.{cases_Bool, cases_lt, both_ways, not-true, not-false, and_right, ltb-true, ltb-false, leb-true, leb-false, le-ltb, lt-leb, eqb-false, ne_eqb}
+use Rattle.std.proofs.lemmas.List.{drop_more, drop_all, take-take, get_or_default}
+use Rattle.std.proofs.lemmas.Slice.{between_is}
+use Rattle.std.proofs.lemmas.Bool.{cases_Bool, cases_lt, not-true, not-false, and_right, ltb-true, ltb-false, leb-true, leb-false, le-ltb, lt-leb, eqb-false, ne_eqb}
 use Rattle.keys.specs.Order.{Total, before}
 use Rattle.keys.specs.Orders.{place_order}
 use Rattle.keys.specs.declared.place.Place.{Place}
@@ -12,6 +13,7 @@ use Rattle.contents.specs.Entries.{first_that, last_that}
 use Rattle.contents.proofs.Bounds.{Parts, parts, below_parts, upto-parts}
 use Rattle.arrays.proofs.Chosen.{first-none, first-at, last_none, last-at}
 use Rattle.store.specs.Meaning.{in_part}
+use Rattle.side.specs.Table.{place_at}
 
 -- ---- what the order says of the partitions
 
@@ -43,14 +45,14 @@ lead_is t ps i x b l read e = ap (λ y. cond b (Some y) None) read ∙ sym (lead
 pub lead_none : {P : Type 0} (t : P → Bool) (ps : List P) (i : ℕ) → length ps ≤ i → None ≡ first_that t (take 1 (drop i ps))
 lead_none t ps i l = sym (ap (λ xs. first_that t (take 1 xs)) (drop_all i ps l))
 
--- ---- what a place that was read tells of the index that parts the places
+-- ---- what a sorted list of places says of their partitions
 
-module _ {P : Type 0} (t : P → Bool) (ps : List P) (n : ℕ) (h : Parts t ps n) (i : ℕ) (x : P) (within : i < length ps) (read : x ≡ get_or ps i x) where
-  pub passed : t x ≡ true → i < n
-  passed e = ⊎_elim (λ l. l) (λ m. absurd (both_ways (t x) (ap t read ∙ h.after i x m within) e)) (cases_lt i n)
-
-  pub failed : t x ≡ false → n ≤ i
-  failed e = ⊎_elim (λ l. absurd (both_ways (t x) e (ap t read ∙ h.before i x l))) (λ m. m) (cases_lt i n)
+-- the place at i of those up to there
+pub before-at : {K : Type 0} (q i n : ℕ) (ps : List (Place K)) → i + 1 ≡ n → place_at q i (take n ps) ≡ place_at q i ps
+before-at q i n ps e =
+    let one : n - i ≡ 1 = omega arith in
+    ap (λ xs. first_that (in_part q) (take 1 xs)) (sym (between_is ps i n) ∙ ap (λ k. take k (drop i ps)) one)
+    ∙ ap (first_that (in_part q)) (take-take 1 1 (drop i ps) (omega arith))
 
 some : {P : Type 0} (ps : List P) → 0 < length ps → P
 some [] h = absurd (omega arith)
@@ -66,13 +68,14 @@ module _ {K : Type 0} (cmp : K → K → Ordering) (ps : List (Place K)) (up : S
 
   -- ---- where a partition starts and ends
 
+  parted : (t : ℕ → Bool) → ((a b : ℕ) → a ≤ b → t a ≡ false → t b ≡ false) → Parts (λ x. t x.partition) ps (count (λ x. t x.partition) ps)
+  parted t on = parts (λ x. t x.partition) ps (λ i j d le l e. on (get_or ps i d).partition (get_or ps j d).partition (rises i j d le l) e)
+
   pub start-parts : (q : ℕ) → Parts (λ x. ltb x.partition q) ps (count (λ x. ltb x.partition q) ps)
-  start-parts q = parts (λ x. ltb x.partition q) ps
-      (λ i j d le l e. let a = ltb-false (get_or ps i d).partition q e in let r = rises i j d le l in le-ltb (get_or ps j d).partition q (omega arith))
+  start-parts q = parted (λ a. ltb a q) (λ a b le e. let h = ltb-false a q e in le-ltb b q (omega arith))
 
   pub end-parts : (q : ℕ) → Parts (λ x. leb x.partition q) ps (count (λ x. leb x.partition q) ps)
-  end-parts q = parts (λ x. leb x.partition q) ps
-      (λ i j d le l e. let a = leb-false (get_or ps i d).partition q e in let r = rises i j d le l in lt-leb (get_or ps j d).partition q (omega arith))
+  end-parts q = parted (λ a. leb a q) (λ a b le e. let h = leb-false a q e in lt-leb b q (omega arith))
 
   -- ---- the first that passes, where from n on those that pass are those of partition q
 
@@ -80,7 +83,7 @@ module _ {K : Type 0} (cmp : K → K → Ordering) (ps : List (Place K)) (up : S
       (low : (k : ℕ) (d : Place K) → k < n → t (get_or ps k d) ≡ false)
       (same : (k : ℕ) (d : Place K) → n ≤ k → k < length ps → t (get_or ps k d) ≡ in_part q (get_or ps k d))
       (from : (k : ℕ) (d : Place K) → n ≤ k → k < length ps → q ≤ (get_or ps k d).partition) where
-    first_found : (d : Place K) → n < length ps → first_that t ps ≡ first_that (in_part q) (take 1 (drop n ps))
+    first_found : (d : Place K) → n < length ps → first_that t ps ≡ place_at q n ps
     first_found d l =
         let x : Place K = get_or ps n d in
         ⊎_elim
@@ -99,10 +102,10 @@ module _ {K : Type 0} (cmp : K → K → Ordering) (ps : List (Place K)) (up : S
         ∙ sym (lead_at (in_part q) ps n d false l e))
         (cases_Bool (in_part q x))
 
-    first_past : length ps ≤ n → first_that t ps ≡ first_that (in_part q) (take 1 (drop n ps))
+    first_past : length ps ≤ n → first_that t ps ≡ place_at q n ps
     first_past l = first-none t ps (λ k d m. low k d (omega arith)) ∙ lead_none (in_part q) ps n l
 
-    first-is : first_that t ps ≡ first_that (in_part q) (take 1 (drop n ps))
+    first-is : first_that t ps ≡ place_at q n ps
     first-is = ⊎_elim (λ l. first_found (some ps (omega arith)) l) first_past (cases_lt n (length ps))
 
   -- ---- the last that passes, where up to n those that pass are those of partition q
@@ -111,7 +114,7 @@ module _ {K : Type 0} (cmp : K → K → Ordering) (ps : List (Place K)) (up : S
       (high : (k : ℕ) (d : Place K) → n ≤ k → k < length ps → t (get_or ps k d) ≡ false)
       (same : (k : ℕ) (d : Place K) → k < n → t (get_or ps k d) ≡ in_part q (get_or ps k d))
       (to : (k : ℕ) (d : Place K) → k < n → (get_or ps k d).partition ≤ q) where
-    last_found : (d : Place K) (i : ℕ) → i + 1 ≡ n → last_that t ps ≡ first_that (in_part q) (take 1 (drop i ps))
+    last_found : (d : Place K) (i : ℕ) → i + 1 ≡ n → last_that t ps ≡ place_at q i ps
     last_found d i is =
         let l : i < length ps = omega arith in
         let x : Place K = get_or ps i d in
@@ -131,22 +134,29 @@ module _ {K : Type 0} (cmp : K → K → Ordering) (ps : List (Place K)) (up : S
         ∙ sym (lead_at (in_part q) ps i d false l e))
         (cases_Bool (in_part q x))
 
-    last-past : 0 ≡ n → last_that t ps ≡ None
+    last-past : n ≡ 0 → last_that t ps ≡ None
     last-past z = last_none t ps (λ k d m. high k d (omega arith) m)
 
-    last-is : (i : ℕ) → i + 1 ≡ n → last_that t ps ≡ first_that (in_part q) (take 1 (drop i ps))
-    last-is i e = last_found (some ps (omega arith)) i e
+    last-is : (i : ℕ) → i ≡ n → place_at q (i - 1) (take i ps) ≡ last_that t ps
+    last-is i is =
+        ap (λ m. place_at q (m - 1) (take m ps)) is
+        ∙ ⊎_elim
+        (λ l. let e : n - 1 + 1 ≡ n = omega arith in before-at q (n - 1) n ps e ∙ sym (last_found (some ps (omega arith)) (n - 1) e))
+        (λ l. let z : n ≡ 0 = omega arith in ap (λ m. place_at q (m - 1) (take m ps)) z ∙ sym (last-past z))
+        (cases_lt 0 n)
 
-  -- ---- the first and the last of a partition
+  -- ---- the first and the last of a partition, and the next and the previous of a place: they stand at i, or nowhere
 
   module _ (q : ℕ) where
-    pub first_in-is : first_that (in_part q) ps ≡ first_that (in_part q) (take 1 (drop (count (λ x. ltb x.partition q) ps) ps))
-    first_in-is =
+    pub first_of : (i : ℕ) → i ≡ count (λ x. ltb x.partition q) ps → place_at q i ps ≡ first_that (in_part q) ps
+    first_of i e =
         let h = start-parts q in
-        first-is (in_part q) q (count (λ x. ltb x.partition q) ps)
+        ap (λ j. place_at q j ps) e
+        ∙ sym
+        (first-is (in_part q) q (count (λ x. ltb x.partition q) ps)
         (λ k d l. let a = ltb-true (get_or ps k d).partition q (h.before k d l) in ne_eqb (get_or ps k d).partition q (λ z. omega arith))
         (λ k d a l. refl)
-        (λ k d a l. ltb-false (get_or ps k d).partition q (h.after k d a l))
+        (λ k d a l. ltb-false (get_or ps k d).partition q (h.after k d a l)))
 
     out : (k : ℕ) (d : Place K) → count (λ x. leb x.partition q) ps ≤ k → k < length ps → in_part q (get_or ps k d) ≡ false
     out k d a l = let b = leb-false (get_or ps k d).partition q ((end-parts q).after k d a l) in ne_eqb (get_or ps k d).partition q (λ z. omega arith)
@@ -154,13 +164,8 @@ module _ {K : Type 0} (cmp : K → K → Ordering) (ps : List (Place K)) (up : S
     up_to : (k : ℕ) (d : Place K) → k < count (λ x. leb x.partition q) ps → (get_or ps k d).partition ≤ q
     up_to k d l = leb-true (get_or ps k d).partition q ((end-parts q).before k d l)
 
-    pub last_in-is : (i : ℕ) → i + 1 ≡ count (λ x. leb x.partition q) ps → last_that (in_part q) ps ≡ first_that (in_part q) (take 1 (drop i ps))
-    last_in-is = last-is (in_part q) q (count (λ x. leb x.partition q) ps) (end-parts q).within out (λ k d l. refl) up_to
-
-    pub last_in-none : 0 ≡ count (λ x. leb x.partition q) ps → last_that (in_part q) ps ≡ None
-    last_in-none = last-past (in_part q) q (count (λ x. leb x.partition q) ps) (end-parts q).within out (λ k d l. refl) up_to
-
-  -- ---- the next and the previous of a place, in its partition
+    pub last_of : (i : ℕ) → i ≡ count (λ x. leb x.partition q) ps → place_at q (i - 1) (take i ps) ≡ last_that (in_part q) ps
+    last_of = last-is (in_part q) q (count (λ x. leb x.partition q) ps) (end-parts q).within out (λ k d l. refl) up_to
 
   module _ (o : Total (before (place_order cmp))) (p : Place K) where
     abbrev lt : Place K → Place K → Bool
@@ -172,14 +177,16 @@ module _ {K : Type 0} (cmp : K → K → Ordering) (ps : List (Place K)) (up : S
     abbrev earlier : Place K → Bool
     earlier x = in_part p.partition x && lt x p
 
-    pub next_in-is : first_that after ps ≡ first_that (in_part p.partition) (take 1 (drop (upto lt ps p) ps))
-    next_in-is =
+    pub next_of : (i : ℕ) → i ≡ upto lt ps p → place_at p.partition i ps ≡ first_that after ps
+    next_of i e =
         let h = upto-parts o ps p up in
         let past : (k : ℕ) (d : Place K) → upto lt ps p ≤ k → k < length ps → lt p (get_or ps k d) ≡ true = λ k d a l. not-false (lt p (get_or ps k d)) (h.after k d a l) in
-        first-is after p.partition (upto lt ps p)
+        ap (λ j. place_at p.partition j ps) e
+        ∙ sym
+        (first-is after p.partition (upto lt ps p)
         (λ k d l. and_right (in_part p.partition (get_or ps k d)) (lt p (get_or ps k d)) (not-true (lt p (get_or ps k d)) (h.before k d l)))
         (λ k d a l. and_one (in_part p.partition (get_or ps k d)) (lt p (get_or ps k d)) (past k d a l))
-        (λ k d a l. before-le cmp p (get_or ps k d) (past k d a l))
+        (λ k d a l. before-le cmp p (get_or ps k d) (past k d a l)))
 
     not_earlier : (k : ℕ) (d : Place K) → below lt ps p ≤ k → k < length ps → earlier (get_or ps k d) ≡ false
     not_earlier k d a l = and_right (in_part p.partition (get_or ps k d)) (lt (get_or ps k d) p) ((below_parts o ps p up).after k d a l)
@@ -190,8 +197,5 @@ module _ {K : Type 0} (cmp : K → K → Ordering) (ps : List (Place K)) (up : S
     no_later : (k : ℕ) (d : Place K) → k < below lt ps p → (get_or ps k d).partition ≤ p.partition
     no_later k d l = before-le cmp (get_or ps k d) p ((below_parts o ps p up).before k d l)
 
-    pub previous_in-is : (i : ℕ) → i + 1 ≡ below lt ps p → last_that earlier ps ≡ first_that (in_part p.partition) (take 1 (drop i ps))
-    previous_in-is = last-is earlier p.partition (below lt ps p) (below_parts o ps p up).within not_earlier in_same no_later
-
-    pub previous_in-none : 0 ≡ below lt ps p → last_that earlier ps ≡ None
-    previous_in-none = last-past earlier p.partition (below lt ps p) (below_parts o ps p up).within not_earlier in_same no_later
+    pub previous-of : (i : ℕ) → i ≡ below lt ps p → place_at p.partition (i - 1) (take i ps) ≡ last_that earlier ps
+    previous-of = last-is earlier p.partition (below lt ps p) (below_parts o ps p up).within not_earlier in_same no_later

@@ -1,4 +1,3 @@
 pub mod Live
-pub mod Gaps
 pub mod Finds
 pub mod Steps

@@ -1,7 +1,7 @@
 -- What the calls of the side-table do to its meaning. Assumes nothing.
-use Rattle.std.proofs.Common.{◌≡◌, ℕ, ◌+◌, ◌-◌, ◌<◌, ◌≤◌, Bool, cond, ◌&&◌, eqb, ltb, leb, List, [], ◌∷◌, ◌++◌, length, get_or, take, drop, set, None, Option, Ordering, sym, refl, ap, ◌∙◌, subst, ⊎_elim, arith}
+use Rattle.std.proofs.Common.{◌≡◌, ℕ, ◌+◌, ◌-◌, ◌<◌, ◌≤◌, Bool, cond, eqb, ltb, List, [], ◌∷◌, ◌++◌, length, get_or, take, drop, set, Ordering, sym, refl, ap, ◌∙◌, subst, ⊎_elim, arith}
 use Rattle.std.specs.List.{insert, remove, between}
-use Rattle.std.proofs.lemmas.List.{length-take-le, take-append-drop, get_or-take, get_or_default, get_or-map, length-set}
+use Rattle.std.proofs.lemmas.List.{take-append-drop, get_or-take, length-map, length-set}
 use Rattle.std.proofs.lemmas.List.Edits.{get_or-between}
 use Rattle.std.proofs.lemmas.Bool.{cond_below, cond_above, cases_lt, cases_Bool, both_ways, eq-eqb, ne_eqb}
 use Rattle.keys.specs.Order.{Lawful, Total, before}
@@ -9,19 +9,19 @@ use Rattle.keys.specs.Orders.{place_order}
 use Rattle.keys.specs.declared.place.Place.{Place}
 use Rattle.keys.specs.Laws.{places_lawful}
 use Rattle.keys.proofs.Tests.{total}
-use Rattle.contents.specs.Sorted.{Sorted, count, below, upto}
-use Rattle.contents.specs.Entries.{Entry, entry, places, Rising, run, none, same, first_that, last_that}
+use Rattle.contents.specs.Sorted.{Sorted, below, upto}
+use Rattle.contents.specs.Entries.{Entry, entry, places, Rising, run, none, same}
 use Rattle.contents.specs.Changes.{Gains, Sets, Clears}
-use Rattle.contents.proofs.Bounds.{below-upto}
-use Rattle.contents.proofs.Laws.{gains, loses, replaces, at-run, rising-in, rising-out, same-is, same_self}
+use Rattle.contents.proofs.Alongside.{length_run, key_at}
+use Rattle.contents.proofs.Bounds.{below-upto, upto-parts, run_is}
+use Rattle.contents.proofs.Gaps.{rising-gap, clears-gap}
+use Rattle.contents.proofs.Laws.{gains, loses, replaces, rising-in, rising-out, same-is, same_self}
 use Rattle.arrays.specs.Cells.{put_at, cut}
 use Rattle.arrays.proofs.Fronts.{length-put, length_cut}
-use Rattle.store.specs.Meaning.{Sound, PutDone, TakeDone, SetDone, Removed, in_part}
+use Rattle.store.specs.Meaning.{Sound, PutDone, TakeDone, SetDone, Removed}
 use Rattle.side.specs.declared.SideTable.{SideTable}
-use Rattle.side.specs.Table.{live, side_meaning, Sorts, TableOk, Ranges}
-use Rattle.side.proofs.Live.{length-live, places-live, sorted-live, run-live, upto-fits, length_run, live-put, live_out, live-cut, live-set}
-use Rattle.side.proofs.Gaps.{rising-gap, clears-gap}
-use Rattle.side.proofs.Finds.{first_in-is, last_in-is, last_in-none, next_in-is, previous_in-is, previous_in-none}
+use Rattle.side.specs.Table.{live, side_meaning, Sorts, TableOk, Ranges, TakesPut, Holds}
+use Rattle.side.proofs.Live.{same_length, length-live, places-live, live-put, live_out, live-cut, live-set}
 
 empty-is : {X : Type 0} (n : ℕ) (xs : List X) → n ≡ length xs → eqb n 0 ≡ none xs
 empty-is n [] e = eq-eqb n 0 e
@@ -84,85 +84,33 @@ module _ {K V : Type 0} {cmp : K → K → Ordering} (l : Lawful cmp) (t : SideT
     assured_fits = (let f = b.bound in omega arith);
   }
 
-  -- ---- the places and the runs, as the code has them: the first n - 0 cells
+  -- ---- the places and the runs
 
-  pub sorted_front : (m : ℕ) → m ≡ n → Sorted lt (take m ks)
-  sorted_front m e = subst (λ k. Sorted lt (take k ks)) (sym e) (sorted-live ks vs n in_keys in_values o b.rising)
+  pub front : take n ks ≡ places es
+  front = sym (places-live ks vs n in_keys in_values)
 
-  pub front_length : (m : ℕ) → m ≡ n → length (take m ks) ≡ n
-  front_length m e = let a = in_keys in length-take-le m ks (omega arith) ∙ e
+  pub sorted_front : Sorted lt (take n ks)
+  sorted_front = subst (Sorted lt) (sym front) b.rising
 
-  pub front_lengths : (m : ℕ) → m ≡ n → length (take m ks) ≡ length (take m vs)
-  front_lengths m e =
-      let a = in_keys in
-      let c = in_values in
-      length-take-le m ks (omega arith) ∙ sym (length-take-le m vs (omega arith))
+  pub same_front : length (take n ks) ≡ length (take n vs)
+  same_front = same_length ks vs n in_keys in_values
 
-  pub front_run : (m : ℕ) → m ≡ n → (p : Place K) → run lt (live ks vs m) p ≡ run lt es p
-  front_run m e p = ap (λ k. run lt (live ks vs k) p) e
+  reach : (p : Place K) → upto lt (places es) p ≤ n
+  reach p = let w = (upto-parts o (places es) p b.rising).within in let m = length-map es (λ x. x.place) in let c = counted in omega arith
 
-  pub front_places : (m : ℕ) → m ≡ n → take m ks ≡ places es
-  front_places m e = ap (λ k. take k ks) e ∙ sym (places-live ks vs n in_keys in_values)
+  count_run : (p : Place K) → length (run lt es p) ≡ upto lt (places es) p - below lt (places es) p
+  count_run p = subst (λ xs. length (run lt es p) ≡ upto lt xs p - below lt xs p) front (length_run o (take n ks) (take n vs) sorted_front same_front p)
 
-  -- ---- the places of one partition: r is what stands at i of the first m cells, where that is in partition q
-
-  module _ (m : ℕ) (e : m ≡ n) (i : ℕ) (r : Option (Place K)) where
-    abbrev At : ℕ → Type 0
-    At q = r ≡ first_that (in_part q) (take 1 (drop i (take m ks)))
-
-    -- it is what the first m places say, and those are all
-    told : (F : List (Place K) → Option (Place K)) (q j : ℕ) → i ≡ j → F (take m ks) ≡ first_that (in_part q) (take 1 (drop j (take m ks))) → At q → r ≡ F (places es)
-    told F q j h is at = at ∙ ap (λ k. first_that (in_part q) (take 1 (drop k (take m ks)))) h ∙ sym is ∙ ap F (front_places m e)
-
-    pub first_of : (q : ℕ) → i ≡ count (λ x. ltb x.partition q) (take m ks) → At q → r ≡ first_that (in_part q) (places es)
-    first_of q h = told (first_that (in_part q)) q (count (λ x. ltb x.partition q) (take m ks)) h (first_in-is cmp (take m ks) (sorted_front m e) q)
-
-    pub last_of : (q : ℕ) → i + 1 ≡ count (λ x. leb x.partition q) (take m ks) → At q → r ≡ last_that (in_part q) (places es)
-    last_of q h = told (last_that (in_part q)) q i refl (last_in-is cmp (take m ks) (sorted_front m e) q i h)
-
-    pub next_of : (p : Place K) → i ≡ upto lt (take m ks) p → At p.partition → r ≡ first_that (λ x. in_part p.partition x && lt p x) (places es)
-    next_of p h = told (first_that (λ x. in_part p.partition x && lt p x)) p.partition (upto lt (take m ks) p) h (next_in-is cmp (take m ks) (sorted_front m e) o p)
-
-    pub previous-of : (p : Place K) → i + 1 ≡ below lt (take m ks) p → At p.partition → r ≡ last_that (λ x. in_part p.partition x && lt x p) (places es)
-    previous-of p h = told (last_that (λ x. in_part p.partition x && lt x p)) p.partition i refl (previous_in-is cmp (take m ks) (sorted_front m e) o p i h)
-
-  module _ (m : ℕ) (e : m ≡ n) (r : Option (Place K)) (is : r ≡ None) where
-    pub last_none : (q : ℕ) → 0 ≡ count (λ x. leb x.partition q) (take m ks) → r ≡ last_that (in_part q) (places es)
-    last_none q h = is ∙ sym (last_in-none cmp (take m ks) (sorted_front m e) q h) ∙ ap (last_that (in_part q)) (front_places m e)
-
-    pub previous-none : (p : Place K) → 0 ≡ below lt (take m ks) p → r ≡ last_that (λ x. in_part p.partition x && lt x p) (places es)
-    previous-none p h = is ∙ sym (previous_in-none cmp (take m ks) (sorted_front m e) o p h) ∙ ap (last_that (λ x. in_part p.partition x && lt x p)) (front_places m e)
-
-  pub ranges : (p : Place K) (s e m : ℕ) → m ≡ n → s ≡ below lt (take m ks) p → e ≡ upto lt (take m ks) p → Ranges cmp t p s e
-  ranges p s e m z low high =
-      let x : e ≡ upto lt (take n ks) p = high ∙ ap (λ k. upto lt (take k ks) p) z in
-      let y : s ≡ below lt (take n ks) p = low ∙ ap (λ k. below lt (take k ks) p) z in
-      let h = below-upto o (take m ks) p in
-      let w = upto-fits ks vs n in_keys in_values o b.rising p in
-      let r = length_run ks vs n in_keys in_values o b.rising p in
-      record {
-        start = low ∙ ap (λ xs. below lt xs p) (front_places m z);
-        end = high ∙ ap (λ xs. upto lt xs p) (front_places m z);
-        ordered = omega arith;
-        within = omega arith;
-        count = omega arith;
-      }
+  pub ranges : (p : Place K) (s e : ℕ) → s ≡ below lt (places es) p → e ≡ upto lt (places es) p → Ranges cmp t p s e
+  ranges p s e low high =
+      let h = below-upto o (places es) p in
+      let w = reach p in
+      let r = count_run p in
+      record { start = low; end = high; ordered = omega arith; within = omega arith; count = omega arith }
 
   -- ---- a value put in
 
-  module _ (p : Place K) (i s e : ℕ) (v : V) (known : p.partition < parts) (room : n < cells) (rs : Ranges cmp t p s e) (in-range : i ≤ e - s) where
-    abbrev at : ℕ
-    at = s + i
-
-    le : i ≤ length (run lt es p)
-    le = let c = rs.count in omega arith
-
-    at-is : at ≡ below lt (places es) p + i
-    at-is = ap (λ m. m + i) rs.start
-
-    fits : at ≤ n
-    fits = let w = rs.within in let u = rs.ordered in omega arith
-
+  module _ (p : Place K) (i at : ℕ) (v : V) (slot : TakesPut cmp t p i at) where
     abbrev ks+ : List (Place K)
     ks+ = put_at ks n at p
 
@@ -170,36 +118,39 @@ module _ {K V : Type 0} {cmp : K → K → Ordering} (l : Lawful cmp) (t : SideT
     vs+ = put_at vs n at v
 
     in_room : n < length ks
-    in_room = let c = b.keys_fit in omega arith
+    in_room = let r = slot.room in let c = b.keys_fit in omega arith
 
     in_room_too : n < length vs
-    in_room_too = let c = b.values_fit in omega arith
+    in_room_too = let r = slot.room in let c = b.values_fit in omega arith
 
     more : live ks+ vs+ (n + 1) ≡ insert es (below lt (places es) p + i) (entry p v)
-    more = live-put ks vs n at p v fits in_room in_room_too ∙ ap (λ m. insert es m (entry p v)) at-is
+    more = live-put ks vs n at p v slot.reach in_room in_room_too ∙ ap (λ m. insert es m (entry p v)) slot.place
 
     put-gains : Gains lt es (live ks+ vs+ (n + 1)) p i v
-    put-gains = subst (λ fs. Gains lt es fs p i v) (sym more) (gains o es p i v b.rising le)
+    put-gains = subst (λ fs. Gains lt es fs p i v) (sym more) (gains o es p i v b.rising slot.within)
 
     put-sorts : Sorts cmp ks+ vs+ cells (n + 1) parts
     put-sorts =
-        let x = length-put ks n at p fits in_room in
-        let y = length-put vs n at v fits in_room_too in
+        let x = length-put ks n at p slot.reach in_room in
+        let y = length-put vs n at v slot.reach in_room_too in
         let c = b.keys_fit in
         let d = b.values_fit in
+        let k = slot.known in
+        let r = slot.room in
         record {
           few = omega arith;
           keys_fit = omega arith;
           values_fit = omega arith;
           bound = b.bound;
-          rising = subst (Rising lt) (sym more) (rising-in o es p i v b.rising le);
+          rising = subst (Rising lt) (sym more) (rising-in o es p i v b.rising slot.within);
           inside = λ q h. put-gains.there q (λ z. let u = ap (λ x. x.partition) z in omega arith) ∙ b.inside q h;
         }
 
     put-does : PutDone cmp (side_meaning ks vs cells n parts) (side_meaning ks+ vs+ cells (n + 1) parts) p i v
     put-does =
-        let was = space-in p.partition known in
-        let is : (side_meaning ks+ vs+ cells (n + 1) parts).space p.partition ≡ cells - (n + 1) = sym (cond_below p.partition parts (cells - (n + 1)) 0 known) in
+        let was = space-in p.partition slot.known in
+        let r = slot.room in
+        let is : (side_meaning ks+ vs+ cells (n + 1) parts).space p.partition ≡ cells - (n + 1) = sym (cond_below p.partition parts (cells - (n + 1)) 0 slot.known) in
         record { had_space = omega arith; gains = put-gains; falls = omega arith; same_partitions = refl; same_assured = refl }
 
     abbrev Puts : List (Place K) → List V → Type 0
@@ -208,135 +159,112 @@ module _ {K V : Type 0} {cmp : K → K → Ordering} (l : Lawful cmp) (t : SideT
     pub put-done : (us : List (Place K)) (ws : List V) → us ≡ ks+ → ws ≡ vs+ → Puts us ws
     put-done us ws x y = subst (λ a. Puts a ws) (sym x) (subst (Puts ks+) (sym y) (put-sorts, put-does))
 
-  -- ---- a run that is there
+  -- ---- a value that is there
+
+  module _ (p : Place K) (i at : ℕ) (slot : Holds cmp t p i at) where
+    -- its partition exists
+    known_here : p.partition < parts
+    known_here = ⊎_elim (λ k. k) (λ k. let z = ap length (b.inside p k) in let w = slot.within in absurd (omega arith)) (cases_lt p.partition parts)
+
+    before_end : at < upto lt (places es) p
+    before_end = let r = count_run p in let w = slot.within in let h = slot.place in omega arith
+
+    -- ---- taken out
+
+    module _ (v : V) (read : v ≡ get_or vs at v) where
+      read-run : v ≡ get_or (run lt es p) i v
+      read-run =
+          let s = below lt (places es) p in
+          let e = upto lt (places es) p in
+          let w = before_end in
+          let h = slot.place in
+          let part : between s e (take n vs) ≡ run lt es p =
+          subst (λ xs. between (below lt xs p) (upto lt xs p) (take n vs) ≡ run lt es p) front (run_is o (take n ks) (take n vs) p sorted_front same_front) in
+          read ∙ sym (get_or-take n vs at v slot.reach) ∙ ap (λ k. get_or (take n vs) k v) slot.place ∙ sym (get_or-between (take n vs) s e i v (omega arith)) ∙ ap (λ ws. get_or ws i v) part
+
+      abbrev ks_less : List (Place K)
+      ks_less = cut ks n at (at + 1)
+
+      abbrev vs_less : List V
+      vs_less = cut vs n at (at + 1)
+
+      less : live ks_less vs_less (n - 1) ≡ remove es (below lt (places es) p + i)
+      less = live_out ks vs n in_keys in_values at slot.reach ∙ ap (remove es) slot.place
+
+      take-gains : Gains lt (live ks_less vs_less (n - 1)) es p i v
+      take-gains = subst (λ fs. Gains lt fs es p i v) (sym less) (loses o es p i v b.rising slot.within read-run)
+
+      take-sorts : Sorts cmp ks_less vs_less cells (n - 1) parts
+      take-sorts =
+          let u = slot.reach in
+          let h = known_here in
+          let x = length_cut ks n at (at + 1) (omega arith) (omega arith) in_keys in
+          let y = length_cut vs n at (at + 1) (omega arith) (omega arith) in_values in
+          let w = b.few in
+          let c = b.keys_fit in
+          let d = b.values_fit in
+          record {
+            few = omega arith;
+            keys_fit = omega arith;
+            values_fit = omega arith;
+            bound = b.bound;
+            rising = subst (Rising lt) (sym less) (rising-out o es (below lt (places es) p + i) b.rising);
+            inside = λ q k. sym (take-gains.there q (λ z. let u = ap (λ x. x.partition) z in omega arith)) ∙ b.inside q k;
+          }
+
+      take-does : TakeDone cmp (side_meaning ks vs cells n parts) (side_meaning ks_less vs_less cells (n - 1) parts) p i v
+      take-does =
+          let u = slot.reach in
+          let w = b.few in
+          let was = space-in p.partition known_here in
+          let is : (side_meaning ks_less vs_less cells (n - 1) parts).space p.partition ≡ cells - (n - 1) = sym (cond_below p.partition parts (cells - (n - 1)) 0 known_here) in
+          record { gains = take-gains; rises = omega arith; same_partitions = refl; same_assured = refl }
+
+      abbrev Takes : List (Place K) → List V → Type 0
+      Takes us ws = Sorts cmp us ws cells (n - 1) parts × TakeDone cmp (side_meaning ks vs cells n parts) (side_meaning us ws cells (n - 1) parts) p i v
+
+      pub take_done : (us : List (Place K)) (ws : List V) → us ≡ ks_less → ws ≡ vs_less → Takes us ws
+      take_done us ws x y = subst (λ a. Takes a ws) (sym x) (subst (Takes ks_less) (sym y) (take-sorts, take-does))
+
+    -- ---- replaced
+
+    module _ (v : V) where
+      abbrev vs= : List V
+      vs= = set vs at v
+
+      stands : get_or (take n ks) at p ≡ p
+      stands = ap (λ xs. get_or xs at p) front ∙ key_at o (places es) b.rising p at (let h = slot.place in omega arith) before_end
+
+      same-but : live ks vs= n ≡ set es (below lt (places es) p + i) (entry p v)
+      same-but = live-set ks vs n in_keys in_values at p v slot.reach stands ∙ ap (λ k. set es k (entry p v)) slot.place
+
+      set-sets : Sets lt es (live ks vs= n) p i v
+      set-sets = subst (λ fs. Sets lt es fs p i v) (sym same-but) (replaces o es p i v b.rising slot.within).1
+
+      set-sorts : Sorts cmp ks vs= cells n parts
+      set-sorts =
+          let h = known_here in
+          let y = length-set vs at v in
+          let d = b.values_fit in
+          record {
+            few = b.few;
+            keys_fit = b.keys_fit;
+            values_fit = omega arith;
+            bound = b.bound;
+            rising = subst (Rising lt) (sym same-but) (replaces o es p i v b.rising slot.within).0;
+            inside = λ q k. set-sets.there q (λ z. let u = ap (λ x. x.partition) z in omega arith) ∙ b.inside q k;
+          }
+
+      abbrev Replaces : List V → Type 0
+      Replaces ws = Sorts cmp ks ws cells n parts × SetDone cmp (side_meaning ks vs cells n parts) (side_meaning ks ws cells n parts) p i v
+
+      pub set-done : (ws : List V) → ws ≡ vs= → Replaces ws
+      set-done ws x =
+          subst Replaces (sym x) (set-sorts, record { sets = set-sets; same_space = λ q. refl; same_partitions = refl; same_assured = refl })
+
+  -- ---- a run removed
 
   module _ (p : Place K) (s e : ℕ) (rs : Ranges cmp t p s e) where
-    -- its partition exists
-    known-if : 0 < length (run lt es p) → p.partition < parts
-    known-if h = ⊎_elim (λ k. k) (λ k. let z = ap length (b.inside p k) in absurd (omega arith)) (cases_lt p.partition parts)
-
-    part : run lt es p ≡ between s e (take n vs)
-    part =
-        let at = places-live ks vs n in_keys in_values in
-        sym
-        (ap (λ m. between m e (take n vs)) (rs.start ∙ ap (λ xs. below lt xs p) at)
-        ∙ ap (λ m. between (below lt (take n ks) p) m (take n vs)) (rs.end ∙ ap (λ xs. upto lt xs p) at)
-        ∙ run-live ks vs n in_keys in_values o b.rising p)
-
-    module _ (i : ℕ) (in-range : i < e - s) where
-      abbrev here : ℕ
-      here = s + i
-
-      there : i < length (run lt es p)
-      there = let c = rs.count in omega arith
-
-      known : p.partition < parts
-      known = known-if (let h = there in omega arith)
-
-      here_is : here ≡ below lt (places es) p + i
-      here_is = ap (λ m. m + i) rs.start
-
-      in_use : here < n
-      in_use = let w = rs.within in let u = rs.ordered in omega arith
-
-      -- ---- a value taken out
-
-      module _ (v : V) (read : v ≡ get_or vs here v) where
-        read-run : v ≡ get_or (run lt es p) i v
-        read-run =
-            read ∙ sym (get_or-take n vs here v in_use) ∙ sym (get_or-between (take n vs) s e i v (omega arith)) ∙ ap (λ ws. get_or ws i v) (sym part)
-
-        abbrev ks_less : List (Place K)
-        ks_less = cut ks n here (here + 1)
-
-        abbrev vs_less : List V
-        vs_less = cut vs n here (here + 1)
-
-        less : live ks_less vs_less (n - 1) ≡ remove es (below lt (places es) p + i)
-        less = live_out ks vs n in_keys in_values here in_use ∙ ap (remove es) here_is
-
-        take-gains : Gains lt (live ks_less vs_less (n - 1)) es p i v
-        take-gains = subst (λ fs. Gains lt fs es p i v) (sym less) (loses o es p i v b.rising there read-run)
-
-        take-sorts : Sorts cmp ks_less vs_less cells (n - 1) parts
-        take-sorts =
-            let u = in_use in
-            let h = known in
-            let x = length_cut ks n here (here + 1) (omega arith) (omega arith) in_keys in
-            let y = length_cut vs n here (here + 1) (omega arith) (omega arith) in_values in
-            let w = b.few in
-            let c = b.keys_fit in
-            let d = b.values_fit in
-            record {
-              few = omega arith;
-              keys_fit = omega arith;
-              values_fit = omega arith;
-              bound = b.bound;
-              rising = subst (Rising lt) (sym less) (rising-out o es (below lt (places es) p + i) b.rising);
-              inside = λ q k. sym (take-gains.there q (λ z. let u = ap (λ x. x.partition) z in omega arith)) ∙ b.inside q k;
-            }
-
-        take-does : TakeDone cmp (side_meaning ks vs cells n parts) (side_meaning ks_less vs_less cells (n - 1) parts) p i v
-        take-does =
-            let u = in_use in
-            let w = b.few in
-            let was = space-in p.partition known in
-            let is : (side_meaning ks_less vs_less cells (n - 1) parts).space p.partition ≡ cells - (n - 1) = sym (cond_below p.partition parts (cells - (n - 1)) 0 known) in
-            record { gains = take-gains; rises = omega arith; same_partitions = refl; same_assured = refl }
-
-        abbrev Takes : List (Place K) → List V → Type 0
-        Takes us ws = Sorts cmp us ws cells (n - 1) parts × TakeDone cmp (side_meaning ks vs cells n parts) (side_meaning us ws cells (n - 1) parts) p i v
-
-        pub take_done : (us : List (Place K)) (ws : List V) → us ≡ ks_less → ws ≡ vs_less → Takes us ws
-        take_done us ws x y = subst (λ a. Takes a ws) (sym x) (subst (Takes ks_less) (sym y) (take-sorts, take-does))
-
-      -- ---- a value replaced
-
-      module _ (v : V) where
-        abbrev vs= : List V
-        vs= = set vs here v
-
-        stands : get_or (take n ks) here p ≡ p
-        stands =
-            let w : V = get_or (run lt es p) i v in
-            let m : ℕ = below lt (places es) p + i in
-            let h = here_is in
-            let u = in_use in
-            let c = counted in
-            ap (λ xs. get_or xs here p) (sym (places-live ks vs n in_keys in_values))
-            ∙ ap (λ k. get_or (places es) k p) here_is
-            ∙ get_or-map (λ x. x.place) es m (entry p w) p (omega arith)
-            ∙ ap (λ x. x.place) (at-run o es p i w b.rising there (get_or_default (run lt es p) i v w there))
-
-        same-but : live ks vs= n ≡ set es (below lt (places es) p + i) (entry p v)
-        same-but = live-set ks vs n in_keys in_values here p v in_use stands ∙ ap (λ k. set es k (entry p v)) here_is
-
-        set-sets : Sets lt es (live ks vs= n) p i v
-        set-sets = subst (λ fs. Sets lt es fs p i v) (sym same-but) (replaces o es p i v b.rising there).1
-
-        set-sorts : Sorts cmp ks vs= cells n parts
-        set-sorts =
-            let h = known in
-            let y = length-set vs here v in
-            let d = b.values_fit in
-            record {
-              few = b.few;
-              keys_fit = b.keys_fit;
-              values_fit = omega arith;
-              bound = b.bound;
-              rising = subst (Rising lt) (sym same-but) (replaces o es p i v b.rising there).0;
-              inside = λ q k. set-sets.there q (λ z. let u = ap (λ x. x.partition) z in omega arith) ∙ b.inside q k;
-            }
-
-        abbrev Replaces : List V → Type 0
-        Replaces ws = Sorts cmp ks ws cells n parts × SetDone cmp (side_meaning ks vs cells n parts) (side_meaning ks ws cells n parts) p i v
-
-        pub set-done : (ws : List V) → ws ≡ vs= → Replaces ws
-        set-done ws x =
-            subst Replaces (sym x) (set-sorts, record { sets = set-sets; same_space = λ q. refl; same_partitions = refl; same_assured = refl })
-
-    -- ---- the run removed
-
     abbrev left : ℕ
     left = n - (e - s)
 

@@ -1,12 +1,13 @@
 -- What the side-table means: places and values alongside, the first n of both. Assumes nothing.
-use Rattle.std.specs.Prelude.{◌≡◌, ℕ, ◌-◌, ◌≤◌, cond, ◌&&◌, List, [], length, take, ◌==◌, nat_le, nat_lt}
+use Rattle.std.specs.Prelude.{◌≡◌, ℕ, ◌+◌, ◌-◌, ◌<◌, ◌≤◌, cond, ◌&&◌, List, [], length, take, drop, Ok, Err, Option, Result, ◌==◌, nat_le, nat_lt}
 use Rattle.std.specs.declared.cmp.Ordering.{Ordering}
 use Rattle.keys.specs.Order.{before}
 use Rattle.keys.specs.Orders.{place_order}
 use Rattle.keys.specs.declared.place.Place.{Place}
 use Rattle.contents.specs.Sorted.{below, upto}
-use Rattle.contents.specs.Entries.{Entry, entries, places, Rising, run}
-use Rattle.store.specs.Meaning.{Meaning, void}
+use Rattle.contents.specs.Entries.{Entry, entries, places, Rising, run, first_that}
+use Rattle.store.specs.declared.refusal.Refusal.{Refusal}
+use Rattle.store.specs.Meaning.{Meaning, WhyPut, WhyTake, run_at, in_part, void}
 use Rattle.side.specs.declared.SideTable.{SideTable}
 
 -- the entries in use
@@ -51,3 +52,31 @@ pub record Ranges {K V : Type 0} (cmp : K → K → Ordering) (t : SideTable K V
   pub ordered : s ≤ e
   pub within : e ≤ t.len
   pub count : length (run (before (place_order cmp)) (table_meaning t).contents p) ≡ e - s
+
+-- the place at i, if it is in partition q
+abbrev pub place_at : {K : Type 0} → ℕ → ℕ → List (Place K) → Option (Place K)
+place_at q i ps = first_that (in_part q) (take 1 (drop i ps))
+
+module _ {K V : Type 0} (cmp : K → K → Ordering) (t : SideTable K V) (p : Place K) (i : ℕ) where
+  -- a value put at i of the run at p goes to the cell at
+  pub record TakesPut (at : ℕ) : Type 0 where
+    pub place : at ≡ below (before (place_order cmp)) (places (table_meaning t).contents) p + i
+    pub within : i ≤ length (run_at cmp (table_meaning t) p)
+    pub known : p.partition < t.partitions
+    pub room : t.len < t.cells
+    pub reach : at ≤ t.len
+
+  -- the value at i of the run at p is in the cell at
+  pub record Holds (at : ℕ) : Type 0 where
+    pub place : at ≡ below (before (place_order cmp)) (places (table_meaning t).contents) p + i
+    pub within : i < length (run_at cmp (table_meaning t) p)
+    pub reach : at < t.len
+
+  -- that cell, or why there is none
+  abbrev pub PutSlot : Result ℕ Refusal → Type 0
+  PutSlot (Ok at) = TakesPut at
+  PutSlot (Err e) = WhyPut cmp (table_meaning t) p i e
+
+  abbrev pub HeldSlot : Result ℕ Refusal → Type 0
+  HeldSlot (Ok at) = Holds at
+  HeldSlot (Err e) = WhyTake cmp (table_meaning t) p i e

@@ -1,15 +1,14 @@
 // The side-table: a sorted array of places with a value beside each, over memory handed in.
 #![tactic(auto)]
 
-mod partitions;
-
-ghost use Rattle.std.specs.Prelude.{◌≡◌, length};
+ghost use Rattle.std.specs.Prelude.{◌≡◌, ◌-◌, length, take};
+ghost use Rattle.contents.specs.Entries.{places};
 ghost use Rattle.store.specs.Meaning.{run_at};
-ghost use Rattle.side.specs.Table.{opened, table_meaning, TableOk, Ranges};
+ghost use Rattle.side.specs.Table.{opened, table_meaning, place_at, TableOk, Ranges, PutSlot, HeldSlot};
 
-use crate::partitions::{partition_end, partition_start, place_in};
-use arrays::{insert_at, lower_bound, remove_at, remove_run, run_range, upper_bound, values};
+use arrays::{Keys, Runs, insert_at, remove_at, remove_run};
 use keys::{Key, Place};
+use std::ops::Range;
 use store::{Refusal, Store};
 
 // The most cells that a table uses.
@@ -37,32 +36,56 @@ impl<'a, K: Key, V: Copy + Drop> SideTable<'a, K, V> {
         ensures memory { (result.keys.now ≡ keys.old) × (result.values.now ≡ values.old) }
     {
         let cells = keys.len();
-        if cells == values.len() && cells <= CELLS {
-            SideTable {
-                keys,
-                values,
-                cells,
-                len: 0,
-                partitions,
-            }
-        } else {
-            SideTable {
-                keys,
-                values,
-                cells: 0,
-                len: 0,
-                partitions: 0,
-            }
+        let fit = cells == values.len() && cells <= CELLS;
+        let (cells, partitions) = if fit { (cells, partitions) } else { (0, 0) };
+        SideTable {
+            keys,
+            values,
+            cells,
+            len: 0,
+            partitions,
         }
     }
 
-    // Where the run at `place` begins, and where it ends.
-    fn range(&self, place: &Place<K>) -> (usize, usize)
+    // The places in use.
+    fn places(&self) -> &[Place<K>]
         requires { TableOk K.cmp self.now }
-        ensures { Ranges K.cmp self.now place.now result.0 result.1 }
+        ensures { result.now ≡ places (table_meaning self.now).contents }
     {
-        let range = run_range(&self.keys[0..self.len], place);
-        (range.start, range.end)
+        &self.keys[..self.len]
+    }
+
+    // The same, to be searched.
+    fn sorted(&self) -> Keys<'_, Place<K>>
+        requires { TableOk K.cmp self.now }
+        ensures { result.keys.now ≡ places (table_meaning self.now).contents }
+    {
+        Keys::new(self.places())
+    }
+
+    // The place at `idx`, if there is one and it is in `partition`.
+    fn place_in(&self, idx: usize, partition: u64) -> Option<Place<K>>
+        requires { TableOk K.cmp self.now }
+        ensures { result ≡ place_at partition idx (places (table_meaning self.now).contents) }
+    {
+        let place = self.places().get(idx).copied();
+        place.filter(|p| p.partition == partition)
+    }
+
+    // The place before `idx`, if there is one and it is in `partition`.
+    fn place_before(&self, idx: usize, partition: u64) -> Option<Place<K>>
+        requires { TableOk K.cmp self.now }
+        ensures { result ≡ place_at partition (idx - 1) (take idx (places (table_meaning self.now).contents)) }
+    {
+        self.place_in(idx.checked_sub(1)?, partition)
+    }
+
+    // Where the run at `place` stands.
+    fn range(&self, place: &Place<K>) -> Range<usize>
+        requires { TableOk K.cmp self.now }
+        ensures { Ranges K.cmp self.now place.now result.start result.end }
+    {
+        self.sorted().run_range(place)
     }
 
     // The run at `place`, as the part of the values itself.
@@ -70,7 +93,34 @@ impl<'a, K: Key, V: Copy + Drop> SideTable<'a, K, V> {
         requires { TableOk K.cmp self.now }
         ensures { result.now ≡ run_at K.cmp (table_meaning self.now) place.now }
     {
-        values(&self.keys[0..self.len], &self.values[0..self.len], place)
+        Runs::new(&self.keys[..self.len], &self.values[..self.len]).values(place)
+    }
+
+    // The cell that a value put at `offset` of the run at `place` goes to.
+    fn put_slot(&self, place: &Place<K>, offset: u64) -> Result<usize, Refusal>
+        requires { TableOk K.cmp self.now }
+        ensures { PutSlot K.cmp self.now place.now offset result }
+    {
+        if place.partition >= self.partitions || self.len == self.cells {
+            return Err(Refusal::NoSpace);
+        }
+        let run = self.range(place);
+        if offset > run.len() as u64 {
+            return Err(Refusal::PastEnd);
+        }
+        Ok(run.start + offset as usize)
+    }
+
+    // The cell that holds the value at `offset` of the run at `place`.
+    fn held_slot(&self, place: &Place<K>, offset: u64) -> Result<usize, Refusal>
+        requires { TableOk K.cmp self.now }
+        ensures { HeldSlot K.cmp self.now place.now offset result }
+    {
+        let run = self.range(place);
+        if offset >= run.len() as u64 {
+            return Err(Refusal::PastEnd);
+        }
+        Ok(run.start + offset as usize)
     }
 }
 
@@ -86,14 +136,7 @@ impl<'a, K: Key, V: Copy + Drop> Store for SideTable<'a, K, V> {
     fn sound(&self) {}
 
     fn put(&mut self, place: &Place<K>, offset: u64, value: V) -> Result<(), Refusal> {
-        if place.partition >= self.partitions || self.len == self.cells {
-            return Err(Refusal::NoSpace);
-        }
-        let (start, end) = self.range(place);
-        if offset > (end - start) as u64 {
-            return Err(Refusal::PastEnd);
-        }
-        let at = start + offset as usize;
+        let at = self.put_slot(place, offset)?;
         let len = self.len;
         insert_at(self.keys, len, at, *place);
         insert_at(self.values, len, at, value);
@@ -102,11 +145,7 @@ impl<'a, K: Key, V: Copy + Drop> Store for SideTable<'a, K, V> {
     }
 
     fn take(&mut self, place: &Place<K>, offset: u64) -> Result<V, Refusal> {
-        let (start, end) = self.range(place);
-        if offset >= (end - start) as u64 {
-            return Err(Refusal::PastEnd);
-        }
-        let at = start + offset as usize;
+        let at = self.held_slot(place, offset)?;
         let len = self.len;
         let value = self.values[at];
         remove_at(self.keys, len, at);
@@ -116,18 +155,14 @@ impl<'a, K: Key, V: Copy + Drop> Store for SideTable<'a, K, V> {
     }
 
     fn set(&mut self, place: &Place<K>, offset: u64, value: V) -> Result<(), Refusal> {
-        let (start, end) = self.range(place);
-        if offset >= (end - start) as u64 {
-            return Err(Refusal::PastEnd);
-        }
-        let at = start + offset as usize;
+        let at = self.held_slot(place, offset)?;
         self.values[at] = value;
         Ok(())
     }
 
     // One removal from each array, however long the run.
     fn remove_run(&mut self, place: &Place<K>) {
-        let (start, end) = self.range(place);
+        let Range { start, end } = self.range(place);
         let len = self.len;
         remove_run(self.keys, len, start, end);
         remove_run(self.values, len, start, end);
@@ -135,39 +170,31 @@ impl<'a, K: Key, V: Copy + Drop> Store for SideTable<'a, K, V> {
     }
 
     fn run_len(&self, place: &Place<K>) -> u64 {
-        let (from, to) = self.range(place);
-        (to - from) as u64
+        self.range(place).len() as u64
     }
 
     fn value_at(&self, place: &Place<K>, offset: u64) -> Option<V> {
-        let run = self.run(place);
-        if offset < run.len() as u64 {
-            Some(run[offset as usize])
-        } else {
-            None
-        }
+        self.run(place).get(offset as usize).copied()
     }
 
     fn first_in(&self, partition: u64) -> Option<Place<K>> {
-        let places = &self.keys[0..self.len];
-        place_in(places, partition_start(places, partition), partition)
+        let start = self.places().partition_point(|p| p.partition < partition);
+        self.place_in(start, partition)
     }
 
     fn last_in(&self, partition: u64) -> Option<Place<K>> {
-        let places = &self.keys[0..self.len];
-        let last = partition_end(places, partition).checked_sub(1)?;
-        place_in(places, last, partition)
+        let end = self.places().partition_point(|p| p.partition <= partition);
+        self.place_before(end, partition)
     }
 
     fn next_in(&self, place: &Place<K>) -> Option<Place<K>> {
-        let places = &self.keys[0..self.len];
-        place_in(places, upper_bound(places, place), place.partition)
+        let next = self.sorted().upper_bound(place);
+        self.place_in(next, place.partition)
     }
 
     fn previous_in(&self, place: &Place<K>) -> Option<Place<K>> {
-        let places = &self.keys[0..self.len];
-        let previous = lower_bound(places, place).checked_sub(1)?;
-        place_in(places, previous, place.partition)
+        let bound = self.sorted().lower_bound(place);
+        self.place_before(bound, place.partition)
     }
 
     fn space(&self, partition: u64) -> u64 {

@@ -1,11 +1,14 @@
-use Rattle.std.proofs.Common.{arith}
-use Rattle.side.proofs.Steps.{sorted_front, ranges}
+use Rattle.std.proofs.Common.{ap, ◌∙◌}
+use Rattle.keys.specs.Order.{before}
+use Rattle.keys.specs.Orders.{place_order}
+use Rattle.contents.specs.Sorted.{below, upto}
+use Rattle.side.proofs.Steps.{ranges}
 use Rattle.side.proofs.SideTable.range.Goals as goal
-
-pub run_range-range-requires : goal.run_range-range-requires
-run_range-range-requires g c = sorted_front g.met.K.Key.lawful c.args.self.now c.requires _ (omega arith)
 
 pub returns : goal.returns
 returns g c =
-    ranges g.met.K.Key.lawful c.args.self.now c.requires c.args.place.now _ _ _ (omega arith)
-    c.run_range-range.ensures.start c.run_range-range.ensures.end
+    let p = c.args.place.now in
+    let r = c.run_range in
+    ranges g.met.K.Key.lawful c.args.self.now c.requires p r.result.start r.result.end
+    (r.ensures.start ∙ ap (λ ks. below (before (place_order g.K.Ord.cmp)) ks p) c.sorted.ensures)
+    (r.ensures.end ∙ ap (λ ks. upto (before (place_order g.K.Ord.cmp)) ks p) c.sorted.ensures)

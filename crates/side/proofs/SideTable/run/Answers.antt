@@ -1,12 +1,20 @@
-use Rattle.std.proofs.Common.{◌∙◌, arith}
-use Rattle.side.proofs.Steps.{sorted_front, front_lengths, front_run}
+use Rattle.std.proofs.Common.{take, ap, ◌∙◌}
+use Rattle.keys.specs.Order.{before}
+use Rattle.keys.specs.Orders.{place_order}
+use Rattle.contents.specs.Entries.{entries, run}
+use Rattle.side.proofs.Steps.{sorted_front, same_front}
 use Rattle.side.proofs.SideTable.run.Goals as goal
 
-pub values-requires : goal.values-requires
-values-requires g c = record {
-  sorted = sorted_front g.met.K.Key.lawful c.args.self.now c.requires _ (omega arith);
-  alongside = front_lengths g.met.K.Key.lawful c.args.self.now c.requires _ (omega arith);
+pub new-requires : goal.new-requires
+new-requires g c = record {
+  sorted = sorted_front g.met.K.Key.lawful c.args.self.now c.requires;
+  alongside = same_front g.met.K.Key.lawful c.args.self.now c.requires;
 }
 
 pub returns : goal.returns
-returns g c = c.values.ensures ∙ front_run g.met.K.Key.lawful c.args.self.now c.requires _ (omega arith) c.args.place.now
+returns g c =
+    let t = c.args.self.now in
+    let lt = before (place_order g.K.Ord.cmp) in
+    c.values.ensures
+    ∙ ap (λ ks. run lt (entries ks c.new.result.values.now) c.args.place.now) c.new.ensures.keys
+    ∙ ap (λ vs. run lt (entries (take t.len t.keys.now) vs) c.args.place.now) c.new.ensures.values

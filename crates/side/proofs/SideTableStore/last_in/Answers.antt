@@ -1,19 +1,21 @@
-use Rattle.std.proofs.Common.{◌-◌, arith}
-use Rattle.side.proofs.Steps.{sorted_front, last_of, last_none}
+use Rattle.std.proofs.Common.{◌≡◌, Bool, leb, sym, ap, ◌∙◌, subst, rules, tests}
+use Rattle.keys.specs.declared.place.Place.{Place}
+use Rattle.contents.specs.Sorted.{count}
+use Rattle.contents.specs.Entries.{places}
+use Rattle.contents.proofs.Bounds.{Parts}
+use Rattle.arrays.proofs.Searches.{halved}
+use Rattle.side.specs.Table.{table_meaning}
+use Rattle.side.proofs.Finds.{end-parts, last_of}
 use Rattle.side.proofs.SideTableStore.last_in.Goals as goal
-
-pub partition_end-requires : goal.partition_end-requires
-partition_end-requires g c = sorted_front g.met.K.Key.lawful c.args.self.now c.requires _ (omega arith)
-
-pub returns-in_err-last : goal.returns-in_err-last
-returns-in_err-last g c =
-    let t = c.args.self.now in
-    let few = c.in_err-last.ensures in
-    last_none g.met.K.Key.lawful t c.requires (t.len - 0) (omega arith) c.from_residual.result c.from_residual.ensures c.args.partition (omega arith)
 
 pub returns : goal.returns
 returns g c =
-    let t = c.args.self.now in
-    let is = c.in_ok-last.ensures in
-    last_of g.met.K.Key.lawful t c.requires (t.len - 0) (omega arith) c.in_ok-last.last c.place_in.result c.args.partition
-    (omega arith) c.place_in.ensures
+    let q = c.args.partition in
+    let ps = places (table_meaning c.args.self.now).contents in
+    let test : Place g.row.K.Denot → Bool = λ x. leb x.partition q in
+    let end : c.partition_point-end.result ≡ count test ps =
+    halved test c.places.result.now c.partition_point-end.result
+    (subst (λ xs. Parts test xs (count test xs)) (sym c.places.ensures) (end-parts g.K.Ord.cmp ps c.requires.rising q))
+    c.partition_point-end.ensures.bound c.partition_point-end.ensures.partitioned (λ a r f' k. search (rules, tests))
+    ∙ ap (count test) c.places.ensures in
+    c.place_before.ensures ∙ last_of g.K.Ord.cmp ps c.requires.rising q c.partition_point-end.result end

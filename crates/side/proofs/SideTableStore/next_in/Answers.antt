@@ -1,12 +1,17 @@
-use Rattle.std.proofs.Common.{◌-◌, arith}
-use Rattle.side.proofs.Steps.{sorted_front, next_of}
+use Rattle.std.proofs.Common.{ap, ◌∙◌}
+use Rattle.keys.specs.Order.{before}
+use Rattle.keys.specs.Orders.{place_order}
+use Rattle.keys.specs.Laws.{places_lawful}
+use Rattle.keys.proofs.Tests.{total}
+use Rattle.contents.specs.Sorted.{upto}
+use Rattle.contents.specs.Entries.{places}
+use Rattle.side.specs.Table.{table_meaning}
+use Rattle.side.proofs.Finds.{next_of}
 use Rattle.side.proofs.SideTableStore.next_in.Goals as goal
-
-pub upper_bound-requires : goal.upper_bound-requires
-upper_bound-requires g c = sorted_front g.met.K.Key.lawful c.args.self.now c.requires _ (omega arith)
 
 pub returns : goal.returns
 returns g c =
-    let t = c.args.self.now in
-    next_of g.met.K.Key.lawful t c.requires (t.len - 0) (omega arith) c.upper_bound.result c.place_in.result c.args.place.now
-    c.upper_bound.ensures c.place_in.ensures
+    let p = c.args.place.now in
+    c.place_in.ensures
+    ∙ next_of g.K.Ord.cmp (places (table_meaning c.args.self.now).contents) c.requires.rising (total (places_lawful g.K.Ord.cmp g.met.K.Key.lawful)) p
+    c.upper_bound-next.result (c.upper_bound-next.ensures ∙ ap (λ ks. upto (before (place_order g.K.Ord.cmp)) ks p) c.sorted.ensures)
