@@ -8,7 +8,7 @@ use Rattle.contents.specs.Entries.{first_that, last_that}
 use Rattle.contents.proofs.Bounds.{Parts, tail_suc}
 
 -- a key of a list that has some
-some : {K : Type 0} (ks : List K) → 0 < length ks → K
+pub some : {K : Type 0} (ks : List K) → 0 < length ks → K
 some [] h = absurd (omega arith)
 some (k ∷ ks) h = k
 

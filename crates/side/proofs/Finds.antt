@@ -1,9 +1,10 @@
 -- The first and the last place of a partition, in a sorted list of places. Assumes nothing.
-use Rattle.std.proofs.Common.{◌≡◌, ℕ, ◌+◌, ◌-◌, ◌<◌, ◌≤◌, Bool, true, false, cond, ◌&&◌, ltb, leb, List, [], ◌∷◌, length, get_or, take, drop, Some, None, Ordering, Less, Equal, Greater, sym, refl, ap, ◌∙◌, ⊎_elim, true≢false, arith}
+use Rattle.std.proofs.Common.{◌≡◌, ℕ, ◌+◌, ◌-◌, ◌<◌, ◌≤◌, Bool, true, false, cond, ◌&&◌, ltb, leb, List, length, get_or, take, drop, Some, None, Ordering, Less, Equal, Greater, sym, refl, ap, ◌∙◌, ⊎_elim, true≢false, arith}
 use Rattle.std.specs.Cmp.{ranks}
 use Rattle.std.specs.Ordering.{ordering_then, is_lt, MatchOrdering, nat_cmp}
 use Rattle.std.proofs.lemmas.List.{drop_more, drop_all, take-take, get_or_default}
 use Rattle.std.proofs.lemmas.Slice.{between_is}
+use Rattle.std.proofs.Math.Bool.{and-true}
 use Rattle.std.proofs.lemmas.Bool.{cases_Bool, cases_lt, not-true, not-false, and_right, ltb-true, ltb-false, leb-true, leb-false, le-ltb, lt-leb, eqb-false, ne_eqb}
 use Rattle.keys.specs.Order.{Total, before}
 use Rattle.keys.specs.Orders.{place_order}
@@ -11,7 +12,7 @@ use Rattle.keys.specs.declared.place.Place.{Place}
 use Rattle.contents.specs.Sorted.{Sorted, count, below, upto}
 use Rattle.contents.specs.Entries.{first_that, last_that}
 use Rattle.contents.proofs.Bounds.{Parts, parts, below_parts, upto-parts}
-use Rattle.arrays.proofs.Chosen.{first-none, first-at, last_none, last-at}
+use Rattle.arrays.proofs.Chosen.{some, first-none, first-at, last_none, last-at}
 use Rattle.store.specs.Meaning.{in_part}
 use Rattle.side.specs.Table.{place_at}
 
@@ -28,10 +29,10 @@ not_below a b Equal s h e = omega arith
 not_below a b Greater s h e = omega arith
 
 module _ {K : Type 0} (cmp : K → K → Ordering) (x y : Place K) where
-  pub before-le : before (place_order cmp) x y ≡ true → x.partition ≤ y.partition
+  before-le : before (place_order cmp) x y ≡ true → x.partition ≤ y.partition
   before-le = not_after x.partition y.partition (nat_cmp x.partition y.partition) (cmp x.key y.key) (ranks x.partition y.partition)
 
-  pub not_before_le : before (place_order cmp) x y ≡ false → y.partition ≤ x.partition
+  not_before_le : before (place_order cmp) x y ≡ false → y.partition ≤ x.partition
   not_before_le = not_below x.partition y.partition (nat_cmp x.partition y.partition) (cmp x.key y.key) (ranks x.partition y.partition)
 
 -- ---- one place looked at
@@ -39,13 +40,8 @@ module _ {K : Type 0} (cmp : K → K → Ordering) (x y : Place K) where
 lead_at : {P : Type 0} (t : P → Bool) (ps : List P) (i : ℕ) (d : P) (b : Bool) → i < length ps → t (get_or ps i d) ≡ b → first_that t (take 1 (drop i ps)) ≡ cond b (Some (get_or ps i d)) None
 lead_at t ps i d b l e = ap (λ xs. first_that t (take 1 xs)) (drop_more ps i d l) ∙ ap (λ c. cond c (Some (get_or ps i d)) None) e
 
-pub lead_is : {P : Type 0} (t : P → Bool) (ps : List P) (i : ℕ) (x : P) (b : Bool) → i < length ps → x ≡ get_or ps i x → t x ≡ b → cond b (Some x) None ≡ first_that t (take 1 (drop i ps))
-lead_is t ps i x b l read e = ap (λ y. cond b (Some y) None) read ∙ sym (lead_at t ps i x b l (ap t (sym read) ∙ e))
-
-pub lead_none : {P : Type 0} (t : P → Bool) (ps : List P) (i : ℕ) → length ps ≤ i → None ≡ first_that t (take 1 (drop i ps))
-lead_none t ps i l = sym (ap (λ xs. first_that t (take 1 xs)) (drop_all i ps l))
-
--- ---- what a sorted list of places says of their partitions
+lead_none : {P : Type 0} (t : P → Bool) (ps : List P) (i : ℕ) → length ps ≤ i → first_that t (take 1 (drop i ps)) ≡ None
+lead_none t ps i l = ap (λ xs. first_that t (take 1 xs)) (drop_all i ps l)
 
 -- the place at i of those up to there
 pub before-at : {K : Type 0} (q i n : ℕ) (ps : List (Place K)) → i + 1 ≡ n → place_at q i (take n ps) ≡ place_at q i ps
@@ -54,13 +50,10 @@ before-at q i n ps e =
     ap (λ xs. first_that (in_part q) (take 1 xs)) (sym (between_is ps i n) ∙ ap (λ k. take k (drop i ps)) one)
     ∙ ap (first_that (in_part q)) (take-take 1 1 (drop i ps) (omega arith))
 
-some : {P : Type 0} (ps : List P) → 0 < length ps → P
-some [] h = absurd (omega arith)
-some (p ∷ ps) h = p
+-- ---- what a sorted list of places says of their partitions
 
 and_one : (a b : Bool) → b ≡ true → (a && b) ≡ a
-and_one true b e = e
-and_one false b e = refl
+and_one a b e = ap (λ c. a && c) e ∙ and-true a
 
 module _ {K : Type 0} (cmp : K → K → Ordering) (ps : List (Place K)) (up : Sorted (before (place_order cmp)) ps) where
   rises : (i j : ℕ) (d : Place K) → i ≤ j → j < length ps → (get_or ps i d).partition ≤ (get_or ps j d).partition
@@ -103,7 +96,7 @@ module _ {K : Type 0} (cmp : K → K → Ordering) (ps : List (Place K)) (up : S
         (cases_Bool (in_part q x))
 
     first_past : length ps ≤ n → first_that t ps ≡ place_at q n ps
-    first_past l = first-none t ps (λ k d m. low k d (omega arith)) ∙ lead_none (in_part q) ps n l
+    first_past l = first-none t ps (λ k d m. low k d (omega arith)) ∙ sym (lead_none (in_part q) ps n l)
 
     first-is : first_that t ps ≡ place_at q n ps
     first-is = ⊎_elim (λ l. first_found (some ps (omega arith)) l) first_past (cases_lt n (length ps))
