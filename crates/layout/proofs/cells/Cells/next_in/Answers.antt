@@ -16,6 +16,7 @@ returns g c =
     let lt = before g.K.Ord.cmp in
     c.place_at.ensures
     ∙ ap (λ i. option_map (spot p.partition) (slice_get c.used-used.result.now i)) c.upper_bound-next.ensures
+    ∙ ap (λ xs. option_map (spot p.partition) (slice_get c.used-used.result.now (upto lt xs p.key))) c.new.ensures
     ∙ ap (λ xs. option_map (spot p.partition) (slice_get xs (upto lt xs p.key))) c.used-used.ensures.is
     ∙ ap (option_map (spot p.partition)) (next-nth (total g.met.K.Key.lawful) _ (t.sorts.keys.sorted p.partition) p.key)
     ∙ next-f g.met.K.Key.lawful t.keys.now t.values.now t.lengths.now t.layout.window t.layout.partitions t.sorts p

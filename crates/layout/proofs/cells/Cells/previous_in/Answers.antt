@@ -15,6 +15,7 @@ returns g c =
     let lt = before g.K.Ord.cmp in
     c.place_before.ensures
     ∙ ap (λ i. option_map (spot p.partition) (ahead c.used-used.result.now i)) c.lower_bound-bound.ensures
+    ∙ ap (λ xs. option_map (spot p.partition) (ahead c.used-used.result.now (below lt xs p.key))) c.new.ensures
     ∙ ap (λ xs. option_map (spot p.partition) (ahead xs (below lt xs p.key))) c.used-used.ensures.is
     ∙ ap (option_map (spot p.partition)) (prev_nth (total g.met.K.Key.lawful) _ (t.sorts.keys.sorted p.partition) p.key)
     ∙ previous-f g.met.K.Key.lawful t.keys.now t.values.now t.lengths.now t.layout.window t.layout.partitions t.sorts p
