@@ -18,16 +18,23 @@ use Rattle.contents.proofs.Gaps.{rising-gap, clears-gap}
 use Rattle.contents.proofs.Laws.{gains, loses, replaces, rising-in, rising-out, same-is, same_self}
 use Rattle.arrays.specs.Cells.{put_at, cut}
 use Rattle.arrays.proofs.Fronts.{length-put, length_cut}
-use Rattle.store.specs.Meaning.{Sound, PutDone, TakeDone, SetDone, Removed}
+use Rattle.store.specs.Meaning.{PutDone, TakeDone, SetDone, Removed}
 use Rattle.side.specs.declared.SideTable.{SideTable}
-use Rattle.side.specs.Table.{live, side_meaning, Sorts, TableOk, Ranges, TakesPut, Holds}
+use Rattle.std.specs.declared.cmp.Ord as Ord
+use Rattle.std.specs.declared.cmp.PartialEq as PartialEq
+use Rattle.std.specs.declared.cmp.PartialOrd as PartialOrd
+use Rattle.side.specs.Table.{live, side_meaning, Sorts}
+use Rattle.side.specs.Tables.{Ranges, TakesPut, Holds}
 use Rattle.side.proofs.Live.{same_length, length-live, places-live, live-put, live_out, live-cut, live-set}
 
 empty-is : {X : Type 0} (n : ℕ) (xs : List X) → n ≡ length xs → eqb n 0 ≡ none xs
 empty-is n [] e = eq-eqb n 0 e
 empty-is n (x ∷ xs) e = ne_eqb n 0 (λ z. omega arith)
 
-module _ {K V : Type 0} {cmp : K → K → Ordering} (l : Lawful cmp) (t : SideTable K V) (b : TableOk cmp t) where
+module _ {K V : Type 0} {ord : Ord.Ghosts K} {eqs : PartialEq.Ghosts K} {parts_ord : PartialOrd.Ghosts K} (l : Lawful ord.cmp) (t : SideTable K V ord eqs parts_ord) where
+  abbrev cmp : K → K → Ordering
+  cmp = ord.cmp
+
   abbrev ks : List (Place K)
   ks = t.keys.now
 
@@ -42,6 +49,9 @@ module _ {K V : Type 0} {cmp : K → K → Ordering} (l : Lawful cmp) (t : SideT
 
   abbrev parts : ℕ
   parts = t.partitions
+
+  b : Sorts cmp ks vs cells n parts
+  b = t.sorts
 
   abbrev lt : Place K → Place K → Bool
   lt = before (place_order cmp)
@@ -71,18 +81,6 @@ module _ {K V : Type 0} {cmp : K → K → Ordering} (l : Lawful cmp) (t : SideT
 
   space-out : (q : ℕ) → parts ≤ q → (side_meaning ks vs cells n parts).space q ≡ 0
   space-out q h = sym (cond_above q parts (cells - n) 0 0 h refl)
-
-  pub sound : Sound cmp (side_meaning ks vs cells n parts)
-  sound = record {
-    rising = b.rising;
-    inside = b.inside;
-    outside = space-out;
-    kept = λ q h. let e = space-in q h in let m = counted in let w = b.few in omega arith;
-    space_fits = λ q.
-        let f = b.bound in
-        ⊎_elim (λ h. let e = space-in q h in omega arith) (λ h. let e = space-out q h in omega arith) (cases_lt q parts);
-    assured_fits = (let f = b.bound in omega arith);
-  }
 
   -- ---- the places and the runs
 
@@ -143,7 +141,7 @@ module _ {K V : Type 0} {cmp : K → K → Ordering} (l : Lawful cmp) (t : SideT
           values_fit = omega arith;
           bound = b.bound;
           rising = subst (Rising lt) (sym more) (rising-in o es p i v b.rising slot.within);
-          inside = λ q h. put-gains.there q (λ z. let u = ap (λ x. x.partition) z in omega arith) ∙ b.inside q h;
+          inside = λ q h. ap length (put-gains.there q (λ z. let u = ap (λ x. x.partition) z in omega arith)) ∙ b.inside q h;
         }
 
     put-does : PutDone cmp (side_meaning ks vs cells n parts) (side_meaning ks+ vs+ cells (n + 1) parts) p i v
@@ -153,18 +151,18 @@ module _ {K V : Type 0} {cmp : K → K → Ordering} (l : Lawful cmp) (t : SideT
         let is : (side_meaning ks+ vs+ cells (n + 1) parts).space p.partition ≡ cells - (n + 1) = sym (cond_below p.partition parts (cells - (n + 1)) 0 slot.known) in
         record { had_space = omega arith; gains = put-gains; falls = omega arith; same_partitions = refl; same_assured = refl }
 
-    abbrev Puts : List (Place K) → List V → Type 0
-    Puts us ws = Sorts cmp us ws cells (n + 1) parts × PutDone cmp (side_meaning ks vs cells n parts) (side_meaning us ws cells (n + 1) parts) p i v
+    abbrev Puts : List (Place K) → List V → ℕ → Type 0
+    Puts us ws m = Sorts cmp us ws cells m parts × PutDone cmp (side_meaning ks vs cells n parts) (side_meaning us ws cells m parts) p i v
 
-    pub put-done : (us : List (Place K)) (ws : List V) → us ≡ ks+ → ws ≡ vs+ → Puts us ws
-    put-done us ws x y = subst (λ a. Puts a ws) (sym x) (subst (Puts ks+) (sym y) (put-sorts, put-does))
+    pub put-done : (us : List (Place K)) (ws : List V) (m : ℕ) → us ≡ ks+ → ws ≡ vs+ → m ≡ n + 1 → Puts us ws m
+    put-done us ws m x y z = subst (λ a. Puts a ws m) (sym x) (subst (λ a. Puts ks+ a m) (sym y) (subst (Puts ks+ vs+) (sym z) (put-sorts, put-does)))
 
   -- ---- a value that is there
 
   module _ (p : Place K) (i at : ℕ) (slot : Holds cmp t p i at) where
     -- its partition exists
     known_here : p.partition < parts
-    known_here = ⊎_elim (λ k. k) (λ k. let z = ap length (b.inside p k) in let w = slot.within in absurd (omega arith)) (cases_lt p.partition parts)
+    known_here = ⊎_elim (λ k. k) (λ k. let z = b.inside p k in let w = slot.within in absurd (omega arith)) (cases_lt p.partition parts)
 
     before_end : at < upto lt (places es) p
     before_end = let r = count_run p in let w = slot.within in let h = slot.place in omega arith
@@ -209,7 +207,7 @@ module _ {K V : Type 0} {cmp : K → K → Ordering} (l : Lawful cmp) (t : SideT
             values_fit = omega arith;
             bound = b.bound;
             rising = subst (Rising lt) (sym less) (rising-out o es (below lt (places es) p + i) b.rising);
-            inside = λ q k. sym (take-gains.there q (λ z. let u = ap (λ x. x.partition) z in omega arith)) ∙ b.inside q k;
+            inside = λ q k. ap length (sym (take-gains.there q (λ z. let u = ap (λ x. x.partition) z in omega arith))) ∙ b.inside q k;
           }
 
       take-does : TakeDone cmp (side_meaning ks vs cells n parts) (side_meaning ks_less vs_less cells (n - 1) parts) p i v
@@ -220,11 +218,13 @@ module _ {K V : Type 0} {cmp : K → K → Ordering} (l : Lawful cmp) (t : SideT
           let is : (side_meaning ks_less vs_less cells (n - 1) parts).space p.partition ≡ cells - (n - 1) = sym (cond_below p.partition parts (cells - (n - 1)) 0 known_here) in
           record { gains = take-gains; rises = omega arith; same_partitions = refl; same_assured = refl }
 
-      abbrev Takes : List (Place K) → List V → Type 0
-      Takes us ws = Sorts cmp us ws cells (n - 1) parts × TakeDone cmp (side_meaning ks vs cells n parts) (side_meaning us ws cells (n - 1) parts) p i v
+      abbrev Takes : List (Place K) → List V → ℕ → Type 0
+      Takes us ws m = Sorts cmp us ws cells m parts × TakeDone cmp (side_meaning ks vs cells n parts) (side_meaning us ws cells m parts) p i v
 
-      pub take_done : (us : List (Place K)) (ws : List V) → us ≡ ks_less → ws ≡ vs_less → Takes us ws
-      take_done us ws x y = subst (λ a. Takes a ws) (sym x) (subst (Takes ks_less) (sym y) (take-sorts, take-does))
+      pub take_done : (us : List (Place K)) (ws : List V) (m : ℕ) → us ≡ ks_less → ws ≡ vs_less → m ≡ n - ((at + 1) - at) → Takes us ws m
+      take_done us ws m x y z =
+          let one : m ≡ n - 1 = omega arith in
+          subst (λ a. Takes a ws m) (sym x) (subst (λ a. Takes ks_less a m) (sym y) (subst (Takes ks_less vs_less) (sym one) (take-sorts, take-does)))
 
     -- ---- replaced
 
@@ -252,7 +252,7 @@ module _ {K V : Type 0} {cmp : K → K → Ordering} (l : Lawful cmp) (t : SideT
             values_fit = omega arith;
             bound = b.bound;
             rising = subst (Rising lt) (sym same-but) (replaces o es p i v b.rising slot.within).0;
-            inside = λ q k. set-sets.there q (λ z. let u = ap (λ x. x.partition) z in omega arith) ∙ b.inside q k;
+            inside = λ q k. ap length (set-sets.there q (λ z. let u = ap (λ x. x.partition) z in omega arith)) ∙ b.inside q k;
           }
 
       abbrev Replaces : List V → Type 0
@@ -283,11 +283,11 @@ module _ {K V : Type 0} {cmp : K → K → Ordering} (l : Lawful cmp) (t : SideT
         (sym (gap ∙ ap (λ m. take m es ++ drop e es) rs.start ∙ ap (λ m. take (below lt (places es) p) es ++ drop m es) rs.end))
         (clears-gap o es p b.rising)
 
-    clear_inside : (q : Place K) → parts ≤ q.partition → run lt (live ks0 vs0 left) q ≡ []
+    clear_inside : (q : Place K) → parts ≤ q.partition → length (run lt (live ks0 vs0 left) q) ≡ 0
     clear_inside q k =
         ⊎_elim
-        (λ z. subst (λ x. run lt (live ks0 vs0 left) x ≡ []) (sym (same-is o q p z)) clears.here)
-        (λ f. clears.there q (λ z. both_ways (same lt q p) f (ap (same lt q) (sym z) ∙ same_self o q)) ∙ b.inside q k)
+        (λ z. subst (λ x. length (run lt (live ks0 vs0 left) x) ≡ 0) (sym (same-is o q p z)) (ap length clears.here))
+        (λ f. ap length (clears.there q (λ z. both_ways (same lt q p) f (ap (same lt q) (sym z) ∙ same_self o q))) ∙ b.inside q k)
         (cases_Bool (same lt q p))
 
     clear_sorts : Sorts cmp ks0 vs0 cells left parts
@@ -319,7 +319,7 @@ module _ {K V : Type 0} {cmp : K → K → Ordering} (l : Lawful cmp) (t : SideT
         omega arith)
         (λ h.
         let was = space-out p.partition h in
-        let z = ap length (b.inside p h) in
+        let z = b.inside p h in
         omega arith)
         (cases_lt p.partition parts)
 
@@ -333,11 +333,12 @@ module _ {K V : Type 0} {cmp : K → K → Ordering} (l : Lawful cmp) (t : SideT
         let same : live ks0 vs0 left ≡ es = gap ∙ ap (λ k. take s es ++ drop k es) w ∙ take-append-drop s es in
         λ k. record { contents = same k; partitions = parts; space = λ q. cond (ltb q parts) (cells - m k) 0; assured = cells }
 
-    abbrev Clearing : List (Place K) → List V → Type 0
-    Clearing us ws = Sorts cmp us ws cells left parts × Removed cmp (side_meaning ks vs cells n parts) (side_meaning us ws cells left parts) p
+    abbrev Clearing : List (Place K) → List V → ℕ → Type 0
+    Clearing us ws m = Sorts cmp us ws cells m parts × Removed cmp (side_meaning ks vs cells n parts) (side_meaning us ws cells m parts) p
 
-    pub clear_done : (us : List (Place K)) (ws : List V) → us ≡ ks0 → ws ≡ vs0 → Clearing us ws
-    clear_done us ws x y =
-        subst (λ a. Clearing a ws) (sym x)
-        (subst (Clearing ks0) (sym y)
-        (clear_sorts, record { clears = clears; rises = clear_rises; same_partitions = refl; same_assured = refl; idle = clear_idle }))
+    pub clear_done : (us : List (Place K)) (ws : List V) (m : ℕ) → us ≡ ks0 → ws ≡ vs0 → m ≡ left → Clearing us ws m
+    clear_done us ws m x y z =
+        subst (λ a. Clearing a ws m) (sym x)
+        (subst (λ a. Clearing ks0 a m) (sym y)
+        (subst (Clearing ks0 vs0) (sym z)
+        (clear_sorts, record { clears = clears; rises = clear_rises; same_partitions = refl; same_assured = refl; idle = clear_idle })))

@@ -1,12 +1,14 @@
 // The side-table: a sorted array of places with a value beside each, over memory handed in.
 #![tactic(auto)]
 
+mod cells;
+
 ghost use Rattle.std.specs.Prelude.{◌≡◌, ◌-◌, length, take};
 ghost use Rattle.contents.specs.Entries.{places};
-ghost use Rattle.store.specs.Meaning.{run_at};
-ghost use Rattle.side.specs.Table.{opened, table_meaning, place_at, TableOk, Ranges, PutSlot, HeldSlot};
+ghost use Rattle.side.specs.Table.{Sorts, opened, place_at};
 
-use arrays::{Keys, Runs, insert_at, remove_at, remove_run};
+use crate::cells::{insert, remove};
+use arrays::{Keys, Runs};
 use keys::{Key, Place};
 use std::ops::Range;
 use store::{Refusal, Store};
@@ -16,22 +18,25 @@ const CELLS: usize = 65536;
 
 // Places and values alongside, in rising order of the places: the first `len` of `cells` are in use.
 #[derive(Drop)]
-pub struct SideTable<'a, K, V> {
+pub struct SideTable<'a, K: Key, V> {
     keys: &'a mut [Place<K>],
     values: &'a mut [V],
     cells: usize,
     len: usize,
     partitions: u64,
+    ghost sorts: { Sorts K.cmp keys.now values.now cells len partitions },
 }
 
 impl<'a, K: Key, V: Copy + Drop> SideTable<'a, K, V> {
+    ghost use Rattle.store.specs.Meaning.{run_at};
+    ghost use Rattle.side.specs.Tables.{table_meaning, Ranges, PutSlot, HeldSlot};
+
     // An empty table, whatever the cells hold; a void one where they do not fit. The cells are left as they are.
     pub fn open(
         keys: &'a mut [Place<K>],
         values: &'a mut [V],
         partitions: u64,
     ) -> SideTable<'a, K, V>
-        ensures ok { TableOk K.cmp result }
         ensures meaning { table_meaning result ≡ opened (length keys.old) (length values.old) partitions }
         ensures memory { (result.keys.now ≡ keys.old) × (result.values.now ≡ values.old) }
     {
@@ -49,7 +54,6 @@ impl<'a, K: Key, V: Copy + Drop> SideTable<'a, K, V> {
 
     // The places in use.
     fn places(&self) -> &[Place<K>]
-        requires { TableOk K.cmp self.now }
         ensures { result.now ≡ places (table_meaning self.now).contents }
     {
         &self.keys[..self.len]
@@ -57,7 +61,6 @@ impl<'a, K: Key, V: Copy + Drop> SideTable<'a, K, V> {
 
     // The same, to be searched.
     fn sorted(&self) -> Keys<'_, Place<K>>
-        requires { TableOk K.cmp self.now }
         ensures { result.keys.now ≡ places (table_meaning self.now).contents }
     {
         Keys::new(self.places())
@@ -65,7 +68,6 @@ impl<'a, K: Key, V: Copy + Drop> SideTable<'a, K, V> {
 
     // The place at `idx`, if there is one and it is in `partition`.
     fn place_in(&self, idx: usize, partition: u64) -> Option<Place<K>>
-        requires { TableOk K.cmp self.now }
         ensures { result ≡ place_at partition idx (places (table_meaning self.now).contents) }
     {
         let place = self.places().get(idx).copied();
@@ -74,7 +76,6 @@ impl<'a, K: Key, V: Copy + Drop> SideTable<'a, K, V> {
 
     // The place before `idx`, if there is one and it is in `partition`.
     fn place_before(&self, idx: usize, partition: u64) -> Option<Place<K>>
-        requires { TableOk K.cmp self.now }
         ensures { result ≡ place_at partition (idx - 1) (take idx (places (table_meaning self.now).contents)) }
     {
         self.place_in(idx.checked_sub(1)?, partition)
@@ -82,7 +83,6 @@ impl<'a, K: Key, V: Copy + Drop> SideTable<'a, K, V> {
 
     // Where the run at `place` stands.
     fn range(&self, place: &Place<K>) -> Range<usize>
-        requires { TableOk K.cmp self.now }
         ensures { Ranges K.cmp self.now place.now result.start result.end }
     {
         self.sorted().run_range(place)
@@ -90,7 +90,6 @@ impl<'a, K: Key, V: Copy + Drop> SideTable<'a, K, V> {
 
     // The run at `place`, as the part of the values itself.
     pub fn run(&self, place: &Place<K>) -> &[V]
-        requires { TableOk K.cmp self.now }
         ensures { result.now ≡ run_at K.cmp (table_meaning self.now) place.now }
     {
         Runs::new(&self.keys[..self.len], &self.values[..self.len]).values(place)
@@ -98,7 +97,6 @@ impl<'a, K: Key, V: Copy + Drop> SideTable<'a, K, V> {
 
     // The cell that a value put at `offset` of the run at `place` goes to.
     fn put_slot(&self, place: &Place<K>, offset: u64) -> Result<usize, Refusal>
-        requires { TableOk K.cmp self.now }
         ensures { PutSlot K.cmp self.now place.now offset result }
     {
         if place.partition >= self.partitions || self.len == self.cells {
@@ -113,7 +111,6 @@ impl<'a, K: Key, V: Copy + Drop> SideTable<'a, K, V> {
 
     // The cell that holds the value at `offset` of the run at `place`.
     fn held_slot(&self, place: &Place<K>, offset: u64) -> Result<usize, Refusal>
-        requires { TableOk K.cmp self.now }
         ensures { HeldSlot K.cmp self.now place.now offset result }
     {
         let run = self.range(place);
@@ -125,32 +122,26 @@ impl<'a, K: Key, V: Copy + Drop> SideTable<'a, K, V> {
 }
 
 impl<'a, K: Key, V: Copy + Drop> Store for SideTable<'a, K, V> {
+    ghost use Rattle.side.specs.Tables.{table_meaning, table_sound};
+
     type Key = K;
 
     type Value = V;
 
     ghost meaning = { table_meaning };
 
-    ghost ok = { TableOk K.cmp };
-
-    fn sound(&self) {}
+    ghost sound = { table_sound };
 
     fn put(&mut self, place: &Place<K>, offset: u64, value: V) -> Result<(), Refusal> {
         let at = self.put_slot(place, offset)?;
-        let len = self.len;
-        insert_at(self.keys, len, at, *place);
-        insert_at(self.values, len, at, value);
-        self.len = len + 1;
+        insert(self.keys, self.values, &mut self.len, at, *place, value);
         Ok(())
     }
 
     fn take(&mut self, place: &Place<K>, offset: u64) -> Result<V, Refusal> {
         let at = self.held_slot(place, offset)?;
-        let len = self.len;
         let value = self.values[at];
-        remove_at(self.keys, len, at);
-        remove_at(self.values, len, at);
-        self.len = len - 1;
+        remove(self.keys, self.values, &mut self.len, at..at + 1);
         Ok(value)
     }
 
@@ -162,11 +153,8 @@ impl<'a, K: Key, V: Copy + Drop> Store for SideTable<'a, K, V> {
 
     // One removal from each array, however long the run.
     fn remove_run(&mut self, place: &Place<K>) {
-        let Range { start, end } = self.range(place);
-        let len = self.len;
-        remove_run(self.keys, len, start, end);
-        remove_run(self.values, len, start, end);
-        self.len = len - (end - start);
+        let run = self.range(place);
+        remove(self.keys, self.values, &mut self.len, run);
     }
 
     fn run_len(&self, place: &Place<K>) -> u64 {

@@ -1,6 +1,7 @@
 use Rattle.std.proofs.Common.{◌-◌, sym, ap, ◌∙◌, arith}
 use Rattle.contents.specs.Entries.{places}
-use Rattle.side.specs.Table.{table_meaning, place_at}
+use Rattle.side.specs.Table.{place_at}
+use Rattle.side.specs.Tables.{table_meaning}
 use Rattle.side.proofs.Finds.{before-at}
 use Rattle.side.proofs.SideTable.place_before.Goals as goal
 

@@ -9,6 +9,6 @@ pub returns : goal.returns
 returns g c =
     let p = c.args.place.now in
     let r = c.run_range in
-    ranges g.met.K.Key.lawful c.args.self.now c.requires p r.result.start r.result.end
+    ranges g.met.K.Key.lawful c.args.self.now p r.result.start r.result.end
     (r.ensures.start ∙ ap (λ ks. below (before (place_order g.K.Ord.cmp)) ks p) c.sorted.ensures)
     (r.ensures.end ∙ ap (λ ks. upto (before (place_order g.K.Ord.cmp)) ks p) c.sorted.ensures)

@@ -7,8 +7,8 @@ use Rattle.side.proofs.SideTable.run.Goals as goal
 
 pub new-requires : goal.new-requires
 new-requires g c = record {
-  sorted = sorted_front g.met.K.Key.lawful c.args.self.now c.requires;
-  alongside = same_front g.met.K.Key.lawful c.args.self.now c.requires;
+  sorted = sorted_front g.met.K.Key.lawful c.args.self.now;
+  alongside = same_front g.met.K.Key.lawful c.args.self.now;
 }
 
 pub returns : goal.returns

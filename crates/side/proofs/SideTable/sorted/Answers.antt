@@ -5,4 +5,4 @@ use Rattle.contents.specs.Sorted.{Sorted}
 use Rattle.side.proofs.SideTable.sorted.Goals as goal
 
 pub new-requires : goal.new-requires
-new-requires g c = subst (Sorted (before (place_order g.K.Ord.cmp))) (sym c.places.ensures) c.requires.rising
+new-requires g c = subst (Sorted (before (place_order g.K.Ord.cmp))) (sym c.places.ensures) c.args.self.now.sorts.rising

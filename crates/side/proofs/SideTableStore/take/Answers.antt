@@ -2,12 +2,24 @@ use Rattle.std.proofs.Common.{get_or, ap}
 use Rattle.side.proofs.Steps.{take_done}
 use Rattle.side.proofs.SideTableStore.take.Goals as goal
 
+pub invariant_of-self : goal.invariant_of-self
+invariant_of-self g c =
+    let t = c.args.self.now in
+    let at = c.in_ok-at.at in
+    let d = c.remove.ensures in
+    let h =
+    take_done g.met.K.Key.lawful t c.args.place.now c.args.offset at c.in_ok-at.ensures
+    (get_or t.values.now at c.index-self-at.result) (ap (get_or t.values.now at) c.index-self-at.is)
+    c.remove.new.places c.remove.new.values c.remove.new.len d.places d.values d.len in
+    record { sorts = h.0 }
+
 pub returns : goal.returns
 returns g c =
     let t = c.args.self.now in
     let at = c.in_ok-at.at in
+    let d = c.remove.ensures in
     let h =
-    take_done g.met.K.Key.lawful t c.requires c.args.place.now c.args.offset at c.in_ok-at.ensures
+    take_done g.met.K.Key.lawful t c.args.place.now c.args.offset at c.in_ok-at.ensures
     (get_or t.values.now at c.index-self-at.result) (ap (get_or t.values.now at) c.index-self-at.is)
-    c.remove_at.new.cells c.remove_at-2.new.cells c.remove_at.ensures c.remove_at-2.ensures in
-    record { ok = h.0; does = h.1 }
+    c.remove.new.places c.remove.new.values c.remove.new.len d.places d.values d.len in
+    h.1
