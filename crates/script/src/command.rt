@@ -26,7 +26,7 @@ pub enum Call {
 // The call of that name, with the words that it takes.
 fn read_call(heap: Global, name: &str, words: &mut Words<'_>) -> Result<Call, Reason> {
     match name {
-        "slots" => Ok(Call::Slots(words.slots()?)),
+        "slots" => words.slots().map(Call::Slots),
         "insert" => Ok(Call::Insert {
             key: words.key(heap)?,
             value: words.value()?,
@@ -53,8 +53,8 @@ fn read_call(heap: Global, name: &str, words: &mut Words<'_>) -> Result<Call, Re
 // The command of that name, with the words that it takes.
 fn read_command(heap: Global, name: &str, words: &mut Words<'_>) -> Result<Command, Reason> {
     match name {
-        "open" => Ok(Command::Open(Opening::read(words)?)),
-        _ => Ok(Command::Call(read_call(heap, name, words)?)),
+        "open" => Opening::read(words).map(Command::Open),
+        _ => read_call(heap, name, words).map(Command::Call),
     }
 }
 

@@ -1,21 +1,22 @@
 // How a script opens a book.
+use std::str::FromStr;
 use words::{Reason, Words, number};
 
-#[derive(Clone, Copy, Debug)]
+#[derive(Clone, Copy, Debug, PartialEq, Eq)]
 pub enum TranslatorName {
     Cap,
     Label,
     Fold,
 }
 
-#[derive(Clone, Copy, Debug)]
+#[derive(Clone, Copy, Debug, PartialEq, Eq)]
 pub enum ValuesName {
     Position,
     Weighing,
 }
 
 // A store, with the numbers that it is opened with.
-#[derive(Clone, Copy, Debug)]
+#[derive(Clone, Copy, Debug, PartialEq, Eq)]
 pub enum StoreName {
     Pocket,
     Windows { window: u64 },
@@ -24,7 +25,7 @@ pub enum StoreName {
     PocketPile { cells: u64 },
 }
 
-#[derive(Clone, Copy, Debug)]
+#[derive(Clone, Copy, Debug, PartialEq, Eq)]
 pub struct Opening {
     pub label: u32,
     pub prefix: u64,
@@ -33,22 +34,28 @@ pub struct Opening {
     pub store: StoreName,
 }
 
-// `cap`, `label` or `fold`.
-fn read_translator(words: &mut Words<'_>) -> Result<TranslatorName, Reason> {
-    match words.word()? {
-        "cap" => Ok(TranslatorName::Cap),
-        "label" => Ok(TranslatorName::Label),
-        "fold" => Ok(TranslatorName::Fold),
-        _ => Err(Reason::UnknownTranslator),
+impl FromStr for TranslatorName {
+    type Err = Reason;
+
+    fn from_str(word: &str) -> Result<TranslatorName, Reason> {
+        match word {
+            "cap" => Ok(TranslatorName::Cap),
+            "label" => Ok(TranslatorName::Label),
+            "fold" => Ok(TranslatorName::Fold),
+            _ => Err(Reason::UnknownTranslator),
+        }
     }
 }
 
-// `position` or `weighing`.
-fn read_values(words: &mut Words<'_>) -> Result<ValuesName, Reason> {
-    match words.word()? {
-        "position" => Ok(ValuesName::Position),
-        "weighing" => Ok(ValuesName::Weighing),
-        _ => Err(Reason::UnknownValues),
+impl FromStr for ValuesName {
+    type Err = Reason;
+
+    fn from_str(word: &str) -> Result<ValuesName, Reason> {
+        match word {
+            "position" => Ok(ValuesName::Position),
+            "weighing" => Ok(ValuesName::Weighing),
+            _ => Err(Reason::UnknownValues),
+        }
     }
 }
 
@@ -86,8 +93,8 @@ impl Opening {
         Ok(Opening {
             label: words.small_number()?,
             prefix: words.number()?,
-            translator: read_translator(words)?,
-            values: read_values(words)?,
+            translator: words.word()?.parse()?,
+            values: words.word()?.parse()?,
             store: read_store(words)?,
         })
     }

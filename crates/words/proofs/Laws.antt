@@ -1,46 +1,90 @@
--- The steps of the loops that read digits. Assumes nothing.
-use Rattle.std.proofs.Common.{◌≡◌, ℕ, ◌+◌, ◌-◌, ◌*◌, ◌^◌, ◌<◌, ◌≤◌, Bool, true, false, cond, ◌&&◌, eqb, ltb, leb, List, [], ◌∷◌, ◌++◌, length, get_or, take, drop, Some, None, Ok, Err, fold, Option, Result, sym, refl, ap, ◌∙◌, append_assoc, append-nil, arith}
-use Rattle.std.proofs.lemmas.List.{drop_more, drop_all, take_all}
-use Rattle.std.proofs.lemmas.List.Sums.{fold_more}
-use Rattle.std.proofs.lemmas.Bool.{cond-true}
+-- The digits of a word, and the steps of the loops that read them in pairs. Assumes nothing.
+use Rattle.std.proofs.Common.{◌≡◌, ℕ, ◌+◌, ◌-◌, ◌*◌, ◌/◌, ◌%◌, ◌^◌, ◌<◌, ◌≤◌, Bool, true, false, cond, ◌&&◌, List, [], ◌∷◌, ◌++◌, length, get_or, take, drop, Some, None, Ok, Err, fold, Option, Result, MatchResult, zero, suc, sym, refl, ap, ◌∙◌, append_assoc, append-nil, arith, rules, tests}
+use Rattle.std.specs.Char.{is_ascii_digit}
+use Rattle.std.specs.List.{list_all, All, AllZip}
+use Rattle.std.specs.Result.{OkIff}
+use Rattle.std.specs.Str.{IsUtf8}
+use Rattle.std.specs.Str.Parse.{ParsesUnsigned}
+use Rattle.std.proofs.lemmas.List.Elements.{All-nil, All-cons}
+use Rattle.std.proofs.lemmas.Str.{IsUtf8-from_ascii}
+use Rattle.std.proofs.lemmas.Str.Ascii.{IsAscii-from_all}
+use Rattle.std.proofs.lemmas.Str.Parse.{IsNumeralModel, numerals_by_fold, parse_digits}
 use Rattle.std.proofs.lemmas.Bool.Decides.{nat_tests}
+use Rattle.std.proofs.lemmas.List.{drop_more, drop_all}
+use Rattle.std.specs.Simd.{first_chunks}
+use Rattle.std.specs.Option.{ok_or}
 use Rattle.words.specs.declared.reason.Reason.{Reason}
-use Rattle.words.specs.declared.reason.Reason.TheVariants.{NotNumber, OutOfRange}
-use Rattle.words.specs.Digits.{all_decimal, decimal, decimal_digit, in_64_bits, with_digit, at_most, number_of, byte_of, before, pairs}
+use Rattle.words.specs.Digits.{is_numeral, decimal, digit, byte_of, before, pairs}
 
--- a digit more, of a number that may have passed 64 bits
-pub with_digit-at : (n d : ℕ) → with_digit (in_64_bits n) d ≡ in_64_bits (n * 10 + d)
-with_digit-at n d = grind (arith, nat_tests)
+-- a word of digits, as `parse` reads it
+pub numerals : IsNumeralModel (λ ds. list_all is_ascii_digit ds ≡ true) decimal
+numerals = numerals_by_fold _ (search rules) (fold (λ n b. n * 10 + (b - 48))) (search rules)
 
-pub value-more : (bs : List ℕ) (i d : ℕ) (v : Option ℕ) → i < length bs → v ≡ in_64_bits (decimal (take i bs)) → decimal_digit (get_or bs i 0) ≡ Some d → with_digit v d ≡ in_64_bits (decimal (take (i + 1) bs))
-value-more bs i d v l e f =
-    let g : d ≡ get_or bs i 0 - 48 = grind (arith, nat_tests) in
-    let h : decimal (take (i + 1) bs) ≡ decimal (take i bs) * 10 + (get_or bs i 0 - 48) = fold_more (λ n b. n * 10 + (b - 48)) 0 bs i 0 l in
-    ap (λ w. with_digit w d) e ∙ with_digit-at (decimal (take i bs)) d ∙ ap (λ n. in_64_bits n) (ap (λ x. decimal (take i bs) * 10 + x) g ∙ sym h)
+below_128 : (bs : List ℕ) → list_all is_ascii_digit bs ≡ true → All (λ b. b < 128) bs
+below_128 [] e = All-nil _
+below_128 (b ∷ bs) e = All-cons (λ c. c < 128) b bs (grind (arith, nat_tests)) (below_128 bs (grind arith))
 
-pub decimal-more : (bs : List ℕ) (i d : ℕ) → i < length bs → all_decimal (drop i bs) ≡ all_decimal bs → decimal_digit (get_or bs i 0) ≡ Some d → all_decimal (drop (i + 1) bs) ≡ all_decimal bs
-decimal-more bs i d l e f =
-    let h : all_decimal (drop i bs) ≡ all_decimal (get_or bs i 0 ∷ drop (i + 1) bs) = ap all_decimal (drop_more bs i 0 l) in
-    grind (arith, nat_tests)
+pub IsUtf8-from_digits : (bs : List ℕ) → list_all is_ascii_digit bs ≡ true → IsUtf8 bs
+IsUtf8-from_digits bs e = IsUtf8-from_ascii bs (IsAscii-from_all bs (below_128 bs e))
 
-pub decimal-stops : (bs : List ℕ) (i : ℕ) → i < length bs → all_decimal (drop i bs) ≡ all_decimal bs → decimal_digit (get_or bs i 0) ≡ None → all_decimal bs ≡ false
-decimal-stops bs i l e f =
-    let h : all_decimal (drop i bs) ≡ all_decimal (get_or bs i 0 ∷ drop (i + 1) bs) = ap all_decimal (drop_more bs i 0 l) in
-    grind (arith, nat_tests)
+-- what `parse` makes of such a word
+pub read-numeral : {E : Type 0} (bs text : List ℕ) (r : Result ℕ E) → is_numeral bs ≡ true → text ≡ bs → ParsesUnsigned 64 10 text r → MatchResult r (λ n. n ≡ decimal bs) (λ _. 2 ^ 64 ≤ decimal bs)
+read-numeral {E} bs text (Ok n) h e p =
+    let digits : list_all is_ascii_digit bs ≡ true = grind arith in
+    let read = parse_digits numerals {E = E} 64 bs (Ok n) (rw e at p) digits in
+    read.1
+read-numeral {E} bs text (Err d) h e p =
+    let digits : list_all is_ascii_digit bs ≡ true = grind arith in
+    let some : 0 < length bs = grind (arith, nat_tests) in
+    let read = parse_digits numerals {E = E} 64 bs (Err d) (rw e at p) digits in
+    let not_small : decimal bs < 2 ^ 64 → ⊥ = λ l. read (some, l) in
+    omega arith
 
-pub decimal-ends : (bs : List ℕ) (i : ℕ) → length bs ≤ i → all_decimal (drop i bs) ≡ all_decimal bs → all_decimal bs ≡ true
-decimal-ends bs i l e = sym e ∙ ap all_decimal (drop_all i bs l)
+-- what `pair` answers says whether there is a byte
+pub ok_some : (o : Option ℕ) (e : Reason) (b : ℕ) → Ok b ≡ ok_or o e → o ≡ Some b
+ok_some None e b h = cc
+ok_some (Some x) e b h = cc
 
-at_most-is : (most n k : ℕ) (all : Bool) → most < 2 ^ 64 → 0 < k → all ≡ true → at_most most (in_64_bits n) ≡ cond (ltb 0 k && all) (cond (leb n most) (Ok n) (Err OutOfRange)) (Err NotNumber)
-at_most-is most n k all small some h = grind (arith, nat_tests)
+pub err_none : (o : Option ℕ) (e d : Reason) → Err d ≡ ok_or o e → o ≡ None
+err_none None e d h = refl
+err_none (Some x) e d h = cc
 
-pub number-ends : (bs : List ℕ) (i most : ℕ) (v : Option ℕ) → 0 < length bs → length bs ≤ i → most < 2 ^ 64 → v ≡ in_64_bits (decimal (take i bs)) → all_decimal (drop i bs) ≡ all_decimal bs → at_most most v ≡ number_of most bs
-number-ends bs i most v some l small e f =
-    let g : v ≡ in_64_bits (decimal bs) = e ∙ ap (λ ds. in_64_bits (decimal ds)) (take_all i bs l) in
-    ap (at_most most) g ∙ at_most-is most (decimal bs) (length bs) (all_decimal bs) small some (decimal-ends bs i l f)
+-- the byte of a pair of digits
+abbrev pub byte_at : List ℕ → Option ℕ
+byte_at p = byte_of (digit (get_or p 0 0)) (digit (get_or p 1 0))
 
-pub number-stops : (bs : List ℕ) (i most : ℕ) → i < length bs → all_decimal (drop i bs) ≡ all_decimal bs → decimal_digit (get_or bs i 0) ≡ None → number_of most bs ≡ Err NotNumber
-number-stops bs i most l e f = let h : all_decimal bs ≡ false = decimal-stops bs i l e f in grind (arith, nat_tests)
+before-none : (b : Option ℕ) → before b None ≡ None
+before-none None = refl
+before-none (Some b) = refl
+
+-- the bytes of pairs that stand apart
+abbrev pub bytes_apart : List (List ℕ) → Option (List ℕ)
+bytes_apart [] = Some []
+bytes_apart (p ∷ ps) = before (byte_at p) (bytes_apart ps)
+
+pub bytes_apart-chunks : (k : ℕ) (bs : List ℕ) → length bs ≡ 2 * k → bytes_apart (first_chunks 2 k bs) ≡ pairs bs
+bytes_apart-chunks zero [] e = refl
+bytes_apart-chunks zero (b ∷ bs) e = absurd (omega arith)
+bytes_apart-chunks (suc k) [] e = absurd (omega arith)
+bytes_apart-chunks (suc k) (b ∷ []) e = absurd (omega arith)
+bytes_apart-chunks (suc k) (high ∷ low ∷ rest) e = ap (before (byte_of (digit high) (digit low))) (bytes_apart-chunks k rest (omega arith))
+
+-- the pairs that `as_chunks` hands out
+pub pairs-chunks : (bs : List ℕ) (ps : List (List ℕ)) → ps ≡ first_chunks 2 (length bs / 2) bs → length bs % 2 ≡ 0 → pairs bs ≡ bytes_apart ps
+pairs-chunks bs ps e even = sym (ap bytes_apart e ∙ bytes_apart-chunks (length bs / 2) bs (omega arith))
+
+-- where each pair writes a byte
+pub bytes_apart-all : (R : List ℕ → ℕ → Type 0) → ((p : List ℕ) (b : ℕ) → R p b → byte_at p ≡ Some b) → (ps : List (List ℕ)) (ys : List ℕ) → AllZip R ps ys → bytes_apart ps ≡ Some ys
+bytes_apart-all R f [] [] h = refl
+bytes_apart-all R f [] (y ∷ ys) h = absurd h
+bytes_apart-all R f (p ∷ ps) [] h = absurd h
+bytes_apart-all R f (p ∷ ps) (y ∷ ys) h = rw (f p y h.0, bytes_apart-all R f ps ys h.1)
+
+-- where one of them writes none
+pub bytes_apart-none : (ps : List (List ℕ)) (i : ℕ) (d : List ℕ) → i < length ps → byte_at (get_or ps i d) ≡ None → bytes_apart ps ≡ None
+bytes_apart-none [] i d l e = absurd (omega arith)
+bytes_apart-none (p ∷ ps) zero d l e = rw e
+bytes_apart-none (p ∷ ps) (suc i) d l e = rw (bytes_apart-none ps i d (omega arith) e) (before-none (byte_at p))
 
 -- bytes, and then those that are still to be read
 abbrev pub onto : List ℕ → Option (List ℕ) → Option (List ℕ)
@@ -55,24 +99,9 @@ onto-before : (xs : List ℕ) (b : ℕ) (o : Option (List ℕ)) → onto xs (bef
 onto-before xs b None = refl
 onto-before xs b (Some ys) = ap (λ zs. Some zs) (sym (append_assoc xs (b ∷ []) ys))
 
-module _ (value : ℕ → Option ℕ) (bs : List ℕ) (i : ℕ) (xs : List ℕ) where
-  drop-pair : 2 * i + 1 < length bs → pairs value (drop (2 * i) bs) ≡ before (byte_of (value (get_or bs (2 * i) 0)) (value (get_or bs (2 * i + 1) 0))) (pairs value (drop (2 * (i + 1)) bs))
-  drop-pair l =
-      let near : 2 * i < length bs = omega arith in
-      let e : 2 * i + 1 + 1 ≡ 2 * (i + 1) = omega arith in
-      ap (λ ds. pairs value ds) (drop_more bs (2 * i) 0 near ∙ ap (λ ds. get_or bs (2 * i) 0 ∷ ds) (drop_more bs (2 * i + 1) 0 l)) ∙ ap (λ n. before (byte_of (value (get_or bs (2 * i) 0)) (value (get_or bs (2 * i + 1) 0))) (pairs value (drop n bs))) e
+module _ (ps : List (List ℕ)) (i : ℕ) (xs : List ℕ) (inv : onto xs (bytes_apart (drop i ps)) ≡ bytes_apart ps) where
+  pub pairs-stop : i < length ps → byte_at (get_or ps i []) ≡ None → bytes_apart ps ≡ None
+  pairs-stop l e = sym inv ∙ ap (λ qs. onto xs (bytes_apart qs)) (drop_more ps i [] l) ∙ ap (λ o. onto xs (before o (bytes_apart (drop (i + 1) ps)))) e
 
-  pub pairs-more : (b : ℕ) → 2 * i + 1 < length bs → byte_of (value (get_or bs (2 * i) 0)) (value (get_or bs (2 * i + 1) 0)) ≡ Some b → onto xs (pairs value (drop (2 * i) bs)) ≡ pairs value bs → onto (xs ++ b ∷ []) (pairs value (drop (2 * (i + 1)) bs)) ≡ pairs value bs
-  pairs-more b l e inv = sym (onto-before xs b (pairs value (drop (2 * (i + 1)) bs))) ∙ ap (λ o. onto xs (before o (pairs value (drop (2 * (i + 1)) bs)))) (sym e) ∙ ap (onto xs) (sym (drop-pair l)) ∙ inv
-
-  -- where a push may have failed, and did not
-  pub pairs-pushed : (b : ℕ) (ys : List ℕ) (t : Bool) → ys ≡ cond t (xs ++ b ∷ []) xs → t ≡ true → 2 * i + 1 < length bs → byte_of (value (get_or bs (2 * i) 0)) (value (get_or bs (2 * i + 1) 0)) ≡ Some b → onto xs (pairs value (drop (2 * i) bs)) ≡ pairs value bs → onto ys (pairs value (drop (2 * (i + 1)) bs)) ≡ pairs value bs
-  pairs-pushed b ys t p h l e inv =
-      let q : ys ≡ xs ++ b ∷ [] = p ∙ cond-true t (xs ++ b ∷ []) xs h in
-      ap (λ zs. onto zs (pairs value (drop (2 * (i + 1)) bs))) q ∙ pairs-more b l e inv
-
-  pub pairs-stop : 2 * i + 1 < length bs → byte_of (value (get_or bs (2 * i) 0)) (value (get_or bs (2 * i + 1) 0)) ≡ None → onto xs (pairs value (drop (2 * i) bs)) ≡ pairs value bs → pairs value bs ≡ None
-  pairs-stop l e inv = sym inv ∙ ap (onto xs) (drop-pair l) ∙ ap (λ o. onto xs (before o (pairs value (drop (2 * (i + 1)) bs)))) e
-
-  pub pairs_end : length bs ≤ 2 * i → onto xs (pairs value (drop (2 * i) bs)) ≡ pairs value bs → pairs value bs ≡ Some xs
-  pairs_end l inv = sym inv ∙ ap (λ ds. onto xs (pairs value ds)) (drop_all (2 * i) bs l) ∙ ap (λ zs. Some zs) (append-nil xs)
+  pub pairs_end : length ps ≤ i → bytes_apart ps ≡ Some xs
+  pairs_end l = sym inv ∙ ap (λ qs. onto xs (bytes_apart qs)) (drop_all i ps l) ∙ ap (λ zs. Some zs) (append-nil xs)

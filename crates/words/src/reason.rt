@@ -1,7 +1,12 @@
 // Why a line of a script is wrong.
+ghost use Rattle.std.specs.Prelude.{◌≡◌};
+ghost use Rattle.words.specs.declared.reason.Reason.TheVariants.{NoMemory};
+
+use std::alloc::AllocFailed;
+use std::error::Error;
 use std::fmt;
 
-#[derive(Clone, Copy, Debug)]
+#[derive(Clone, Copy, Debug, PartialEq, Eq)]
 pub enum Reason {
     UnknownCommand,
     NotBuilt,
@@ -49,5 +54,15 @@ impl fmt::Display for Reason {
             Reason::OtherStore => "does not fit the store",
             Reason::NoMemory => "no memory",
         })
+    }
+}
+
+impl Error for Reason {}
+
+impl<T: Drop> From<AllocFailed<T>> for Reason {
+    ghost from_gives = { λ _ e. e ≡ NoMemory };
+
+    fn from(_why: AllocFailed<T>) -> Self {
+        Self::NoMemory
     }
 }

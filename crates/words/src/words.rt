@@ -1,24 +1,25 @@
 // The words of a line, which stand with one space between.
-ghost use Rattle.std.specs.Prelude.{◌≡◌};
-ghost use Rattle.words.specs.Subkey.{Reads};
+ghost use Rattle.std.specs.Prelude.{◌≡◌, ◌||◌, IsTrue, is_some};
 
 use crate::digits::{grams, key_bytes, label_bytes, number, small_number};
 use crate::reason::Reason;
 use std::alloc::Global;
-use std::str::Split;
+use std::str::{FromStr, Split};
 
 // A value, as its word writes it: with a `:` it is a weighing.
-#[derive(Clone, Copy, Debug)]
+#[derive(Clone, Copy, Debug, PartialEq, Eq)]
 pub enum ValueWord {
     Position(u64),
     Weighing { scale: u32, grams: i32 },
 }
 
-impl ValueWord {
+impl FromStr for ValueWord {
+    type Err = Reason;
+
     // A position, or a weighing `SCALE:GRAMS`.
-    pub fn read(word: &str) -> Result<ValueWord, Reason> {
+    fn from_str(word: &str) -> Result<ValueWord, Reason> {
         match word.split_once(':') {
-            None => Ok(ValueWord::Position(number(word.as_bytes(), u64::MAX)?)),
+            None => number(word.as_bytes(), u64::MAX).map(ValueWord::Position),
             Some((scale, weight)) => Ok(ValueWord::Weighing {
                 scale: small_number(scale.as_bytes())?,
                 grams: grams(weight.as_bytes())?,
@@ -28,42 +29,48 @@ impl ValueWord {
 }
 
 // The key of a place, as its word writes it: `0000000000000010` may be a number and a label.
-#[derive(Clone, Copy, Debug)]
+#[derive(Clone, Copy, Debug, PartialEq, Eq)]
 pub struct SubkeyWord {
     number: Option<u32>,
     label: Option<[u8; 8]>,
+    ghost one_is_there: { IsTrue (is_some number || is_some label) },
+}
+
+impl FromStr for SubkeyWord {
+    ghost use Rattle.words.specs.Subkey.{Reads};
+
+    type Err = Reason;
+
+    ghost from_str_gives = { Reads };
+
+    // Both readings of a word, of which it has to have one.
+    fn from_str(word: &str) -> Result<SubkeyWord, Reason> {
+        let number = small_number(word.as_bytes());
+        let label = label_bytes(word.as_bytes());
+        match (number, label) {
+            (Err(Reason::OutOfRange), None) => Err(Reason::OutOfRange),
+            (Err(_), None) => Err(Reason::NotSubkey),
+            _ => Ok(SubkeyWord {
+                number: number.ok(),
+                label,
+            }),
+        }
+    }
 }
 
 impl SubkeyWord {
-    // Both readings of a word, of which it has to have one.
-    pub fn read(word: &str) -> Result<SubkeyWord, Reason>
-        ensures { Reads word.now result }
-    {
-        let label = label_bytes(word.as_bytes());
-        match small_number(word.as_bytes()) {
-            Ok(n) => Ok(SubkeyWord {
-                number: Some(n),
-                label,
-            }),
-            Err(_) if label.is_some() => Ok(SubkeyWord {
-                number: None,
-                label,
-            }),
-            Err(Reason::OutOfRange) => Err(Reason::OutOfRange),
-            Err(_) => Err(Reason::NotSubkey),
-        }
-    }
+    ghost use Rattle.words.specs.Subkey.{as_number, as_label};
 
     // The key, where keys are numbers.
     pub fn as_number(&self) -> Option<u32>
-        ensures { result ≡ self.now.number }
+        ensures { result ≡ as_number self.now }
     {
         self.number
     }
 
     // The key, where keys are labels.
     pub fn as_label(&self) -> Option<[u8; 8]>
-        ensures { result ≡ self.now.label }
+        ensures { result ≡ as_label self.now }
     {
         self.label
     }
@@ -103,7 +110,7 @@ impl<'a> Words<'a> {
 
     // A number of slots.
     pub fn slots(&mut self) -> Result<usize, Reason> {
-        Ok(number(self.word()?.as_bytes(), 65_536)? as usize)
+        number(self.word()?.as_bytes(), 65_536).map(|n| n as usize)
     }
 
     // A key.
@@ -113,12 +120,12 @@ impl<'a> Words<'a> {
 
     // A value of either kind.
     pub fn value(&mut self) -> Result<ValueWord, Reason> {
-        ValueWord::read(self.word()?)
+        self.word()?.parse()
     }
 
     // The key of a place, of either kind.
     pub fn subkey(&mut self) -> Result<SubkeyWord, Reason> {
-        SubkeyWord::read(self.word()?)
+        self.word()?.parse()
     }
 
     // The end of the line.

@@ -1,34 +1,30 @@
--- The steps are those of `Laws`, at what the loop has.
-use Rattle.std.proofs.Common.{◌≡◌, ◌+◌, ◌*◌, ◌<◌, ◌≤◌, length, drop, Some, sym, refl, ap, ◌∙◌, arith}
-use Rattle.std.proofs.lemmas.List.{take_all, take_more_set, length-set}
+-- The pairs' bytes are the word's.
+use Rattle.std.proofs.Common.{◌≡◌, ℕ, ◌/◌, ◌%◌, false, List, length, Some, None, Ok, Err, Result, IfOk, IfErr, rules, tests, arith, sym, ◌∙◌, ap}
+use Rattle.std.specs.Char.{is_ascii_uppercase}
+use Rattle.std.specs.List.{list_any}
+use Rattle.std.specs.Result.{result_ok}
+use Rattle.std.specs.Simd.{first_chunks}
+use Rattle.words.specs.Digits.{pairs, label_of}
 use Rattle.std.proofs.lemmas.Bool.Decides.{nat_tests}
-use Rattle.words.specs.Digits.{lower_digit, pairs}
-use Rattle.words.proofs.Laws.{onto, onto-nil, pairs-more, pairs-stop, pairs_end}
+use Rattle.std.proofs.lemmas.Iterator.{YieldsList-from_slice}
+use Rattle.std.proofs.lemmas.Iterator.Search.{any_from_yields_List}
+use Rattle.std.proofs.lemmas.Result.{IfOk-weaker, IfErr-weaker}
+use Rattle.words.specs.declared.reason.Reason.TheVariants.{WrongDigit}
+use Rattle.words.proofs.Laws.{ok_some, err_none, byte_at, bytes_apart, bytes_apart-all, bytes_apart-none, pairs-chunks}
 use Rattle.words.proofs.digits.label_bytes.Goals as goal
 
-pub returns-then-word-ne16 : goal.returns-then-word-ne16
-returns-then-word-ne16 c = grind (arith, nat_tests)
-
-pub loop-i-init : goal.loop-i-init
-loop-i-init c = (onto-nil _, refl)
-
-pub returns-in_err-label : goal.returns-in_err-label
-returns-in_err-label c =
-    let near : 2 * c.loop-i.i + 1 < length c.args.word.now = omega arith in
-    let e = pairs-stop lower_digit _ _ _ near (sym c.lower_pair.ensures ∙ c.in_err-label.was) c.loop-i.invariant.0 in
-    grind (arith, nat_tests)
-
-pub loop-i-preserved : goal.loop-i-preserved
-loop-i-preserved c =
-    let near : 2 * c.loop-i.i + 1 < length c.args.word.now = omega arith in
-    let room : c.loop-i.i < length c.loop-i.label = omega arith in (
-      ap (λ xs. onto xs (pairs lower_digit (drop (2 * (c.loop-i.i + 1)) c.args.word.now))) (take_more_set _ _ _ room) ∙ pairs-more lower_digit _ _ _ _ near (sym c.lower_pair.ensures ∙ c.in_ok-label.was) c.loop-i.invariant.0,
-      length-set _ _ _ ∙ c.loop-i.invariant.1,
-    )
+label-from : {E : Type 0} (bs : List ℕ) (r : Result (List ℕ) E) → length bs ≡ 16 → list_any is_ascii_uppercase bs ≡ false → IfOk r (λ ys. pairs bs ≡ Some ys) → IfErr r (λ _. pairs bs ≡ None) → result_ok r ≡ label_of bs
+label-from bs (Ok ys) far lower all none = rw (far, lower, all)
+label-from bs (Err e) far lower all none = rw (far, lower, none)
 
 pub returns : goal.returns
 returns c =
-    let far : length c.args.word.now ≤ 2 * c.loop-i.i = omega arith in
-    let full : length c.loop-i.label ≤ c.loop-i.i = omega arith in
-    let e = pairs_end lower_digit _ _ _ far c.loop-i.invariant.0 ∙ ap (λ xs. Some xs) (take_all c.loop-i.i c.loop-i.label full) in
-    grind (arith, nat_tests)
+    let bs = c.args.word.now in
+    let whole = c.in_ok-as_array.ensures.cases in
+    let ps = c.in_ok-as_array-2.field-0.now in
+    let any : c.any.result ≡ list_any is_ascii_uppercase bs = any_from_yields_List is_ascii_uppercase _ _ _ c.any.ensures.ran (YieldsList-from_slice bs cc) (λ x b q k. search (rules, tests)) in
+    let chunks : ps ≡ first_chunks 2 (length bs / 2) bs = c.in_ok-as_array-2.ensures.cases.same ∙ rw whole.same at c.as_chunks.ensures.front in
+    let apart : pairs bs ≡ bytes_apart ps = pairs-chunks bs ps chunks (omega (arith, whole.long)) in
+    let all = IfOk-weaker c.try_map.result _ (λ ys. pairs bs ≡ Some ys) (λ ys z. apart ∙ bytes_apart-all _ (λ p b k. ok_some _ WrongDigit _ (search rules)) ps ys z.whole) c.try_map.ensures.ok in
+    let none = IfErr-weaker c.try_map.result _ (λ _. pairs bs ≡ None) (λ e k. apart ∙ bytes_apart-none ps k.1.0 k.0 k.1.1.0 (ap byte_at (sym k.1.1.1) ∙ err_none _ WrongDigit e (search rules))) c.try_map.ensures.err in
+    c.ok.ensures.value ∙ label-from bs c.try_map.result whole.long (sym any ∙ c.if-any.false) all none

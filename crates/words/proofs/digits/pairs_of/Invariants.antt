@@ -1,8 +1,7 @@
 -- The bytes so far, and then those of the pairs that follow, are those of the word.
-use Rattle.std.proofs.Common.{◌≡◌, ◌*◌, drop, vec_items}
-use Rattle.words.specs.Digits.{digit, pairs}
-use Rattle.words.proofs.Laws.{onto}
+use Rattle.std.proofs.Common.{◌≡◌, drop, vec_items}
+use Rattle.words.proofs.Laws.{bytes_apart, onto}
 use Rattle.words.proofs.digits.pairs_of.Given as goal
 
-abbrev pub invariant-loop-i : goal.invariant-loop-i
-invariant-loop-i l = onto (vec_items l.bytes) (pairs digit (drop (2 * l.i) l.word)) ≡ pairs digit l.word
+abbrev pub invariant-loop-digits : goal.invariant-loop-digits
+invariant-loop-digits l = onto (vec_items l.bytes) (bytes_apart (drop l.digits-index l.pairs)) ≡ bytes_apart l.pairs
