@@ -1,4 +1,7 @@
 // How a script opens a book.
+ghost use Rattle.std.specs.Prelude.{◌≡◌};
+ghost use Rattle.script.specs.Names.{translator_of, values_of};
+
 use std::str::FromStr;
 use words::{Reason, Words, number};
 
@@ -37,6 +40,8 @@ pub struct Opening {
 impl FromStr for TranslatorName {
     type Err = Reason;
 
+    ghost from_str_gives = { λ bs r. r ≡ translator_of bs };
+
     fn from_str(word: &str) -> Result<TranslatorName, Reason> {
         match word {
             "cap" => Ok(TranslatorName::Cap),
@@ -49,6 +54,8 @@ impl FromStr for TranslatorName {
 
 impl FromStr for ValuesName {
     type Err = Reason;
+
+    ghost from_str_gives = { λ bs r. r ≡ values_of bs };
 
     fn from_str(word: &str) -> Result<ValuesName, Reason> {
         match word {

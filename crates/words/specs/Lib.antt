@@ -1,2 +1,3 @@
 pub mod Digits
 pub mod Subkey
+pub mod Value

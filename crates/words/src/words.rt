@@ -1,5 +1,6 @@
 // The words of a line, which stand with one space between.
 ghost use Rattle.std.specs.Prelude.{◌≡◌, ◌||◌, IsTrue, is_some};
+ghost use Rattle.words.specs.Value.{value_of};
 
 use crate::digits::{grams, key_bytes, label_bytes, number, small_number};
 use crate::reason::Reason;
@@ -15,6 +16,8 @@ pub enum ValueWord {
 
 impl FromStr for ValueWord {
     type Err = Reason;
+
+    ghost from_str_gives = { λ bs r. r ≡ value_of bs };
 
     // A position, or a weighing `SCALE:GRAMS`.
     fn from_str(word: &str) -> Result<ValueWord, Reason> {

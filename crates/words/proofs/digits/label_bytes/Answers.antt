@@ -1,11 +1,10 @@
 -- The pairs' bytes are the word's.
-use Rattle.std.proofs.Common.{◌≡◌, ℕ, ◌/◌, ◌%◌, false, List, length, Some, None, Ok, Err, Result, IfOk, IfErr, rules, tests, arith, sym, ◌∙◌, ap}
+use Rattle.std.proofs.Common.{◌≡◌, ℕ, ◌/◌, false, List, length, Some, None, Ok, Err, Result, IfOk, IfErr, rules, tests, arith, sym, ◌∙◌, ap}
 use Rattle.std.specs.Char.{is_ascii_uppercase}
 use Rattle.std.specs.List.{list_any}
 use Rattle.std.specs.Result.{result_ok}
 use Rattle.std.specs.Simd.{first_chunks}
 use Rattle.words.specs.Digits.{pairs, label_of}
-use Rattle.std.proofs.lemmas.Bool.Decides.{nat_tests}
 use Rattle.std.proofs.lemmas.Iterator.{YieldsList-from_slice}
 use Rattle.std.proofs.lemmas.Iterator.Search.{any_from_yields_List}
 use Rattle.std.proofs.lemmas.Result.{IfOk-weaker, IfErr-weaker}

@@ -1,7 +1,8 @@
--- The bytes so far, and then those of the pairs that follow, are those of the word.
-use Rattle.std.proofs.Common.{◌≡◌, drop, vec_items}
-use Rattle.words.proofs.Laws.{bytes_apart, onto}
+-- Each pair so far has written its byte.
+use Rattle.std.proofs.Common.{◌≡◌, Some, take, vec_items}
+use Rattle.std.specs.List.{AllZip}
+use Rattle.words.proofs.Laws.{byte_at}
 use Rattle.words.proofs.digits.pairs_of.Given as goal
 
 abbrev pub invariant-loop-digits : goal.invariant-loop-digits
-invariant-loop-digits l = onto (vec_items l.bytes) (bytes_apart (drop l.digits-index l.pairs)) ≡ bytes_apart l.pairs
+invariant-loop-digits l = AllZip (λ p b. byte_at p ≡ Some b) (take l.digits-index l.pairs) (vec_items l.bytes)
