@@ -10,17 +10,10 @@ pub struct Line {
     pub command: Result<Command, Reason>,
 }
 
-// A line without the CR that may end it, also where it is the last and has no LF.
-fn without_return(line: &[u8]) -> &[u8] {
-    match line {
-        [front @ .., b'\r'] => front,
-        _ => line,
-    }
-}
-
-// The command of a line, or none where it is passed over. A comment may hold any bytes.
+// The command of a line, or none where it is passed over. A comment may hold any bytes. A CR may end
+// a line, also one that is the last and has no LF.
 fn read_line(heap: Global, line: &[u8]) -> Option<Result<Command, Reason>> {
-    match without_return(line) {
+    match line.strip_suffix(b"\r").unwrap_or(line) {
         [] | [b'#', ..] => None,
         bytes => Some(
             std::str::from_utf8(bytes)

@@ -7,7 +7,7 @@ mod shown;
 #[cfg(test)]
 mod tests {
     use crate::shown::check_shown;
-    use script::{Call, Command, read_script};
+    use script::{Call, Command, Line, read_script};
     use std::alloc::{AllocError, Global};
     use std::test::Fail;
 
@@ -322,38 +322,37 @@ mod tests {
 
     // `get` with a key of that many bytes, each 255.
     fn long_line(heap: Global, bytes: usize) -> Result<String, AllocError> {
-        let mut line = String::from_str(heap, "get ")?;
-        for _ in 0..bytes {
-            line.push_str("fF")?;
-        }
-        Ok(line)
+        let key = "fF".repeat(heap, bytes)?;
+        format!(in heap; "get {key}")
     }
 
     #[test]
     fn long_lines(rt: HostRuntime) -> Result<(), Fail> {
         let line = long_line(rt.alloc(), 100_000)?;
         let lines = read_script(rt.alloc(), line.as_bytes())?;
-        assert!(rt; lines.len() == 1);
-        let Ok(Command::Call(Call::Get { key })) = &lines[0].command else {
+        let [
+            Line {
+                command: Ok(Command::Call(Call::Get { key })),
+                ..
+            },
+        ] = lines.as_slice()
+        else {
             return Err(Fail::new("a key was expected"));
         };
         assert!(rt; key.len() == 100_000);
-        assert!(rt; key[0] == 255 && key[99_999] == 255);
+        assert!(rt; key.iter().all(|b| *b == 255));
         Ok(())
     }
 
     #[test]
     fn readings(rt: HostRuntime) -> Result<(), Fail> {
         let lines = read_script(rt.alloc(), b"run 0 0000000000000010")?;
-        assert!(rt; lines.len() == 1);
-        let Ok(
-            Command::Call(
-                Call::Run {
-                    partition: _,
-                    subkey,
-                },
-            ),
-        ) = &lines[0].command
+        let [
+            Line {
+                command: Ok(Command::Call(Call::Run { subkey, .. })),
+                ..
+            },
+        ] = lines.as_slice()
         else {
             return Err(Fail::new("a run was expected"));
         };

@@ -1,5 +1,5 @@
 // A script's lines as text.
-use script::{Command, read_script};
+use script::{Command, Line, read_script};
 use std::alloc::Global;
 use std::fmt::Write;
 use std::process::Abort;
@@ -9,9 +9,8 @@ use std::test::Fail;
 pub fn shown(heap: Global, script: &[u8]) -> anyhow::Result<String> {
     let lines = read_script(heap, script)?;
     let mut text = String::new(heap);
-    for line in &lines {
-        let number = line.number;
-        match &line.command {
+    for Line { number, command } in &lines {
+        match command {
             Ok(Command::Call(call)) => writeln!(text, "{number} {call:?}")?,
             Ok(Command::Open(opening)) => writeln!(text, "{number} {opening:?}")?,
             Err(why) => writeln!(text, "{number} {why}")?,
