@@ -1,5 +1,5 @@
 // Digits: numbers, grams, keys and labels as the bytes of a word write them.
-ghost use Rattle.std.specs.Prelude.{◌≡◌, ◌⊎◌, true, false, Ok, Err, MatchOption, MatchResult, slice_index};
+ghost use Rattle.std.specs.Prelude.{◌≡◌, ◌<◌, ◌⊎◌, true, false, Ok, Err, IfOk, MatchOption, MatchResult, slice_index};
 ghost use Rattle.std.specs.Option.{ok_or};
 ghost use Rattle.words.specs.Digits.{is_numeral, digit, byte_of, number_of, grams_of, bytes_of, key_of, label_of};
 
@@ -42,13 +42,20 @@ pub fn grams(word: &[u8]) -> Result<i32, Reason>
     }
 }
 
-// The byte that two hexadecimal digits write, in either case.
+// The value of a hexadecimal digit in either case.
+fn hexadecimal_digit(b: u8) -> Result<u32, Reason>
+    ensures value { result ≡ ok_or (digit b) Reason.WrongDigit }
+    ensures bound { IfOk result (λ d. d < 16) }
+{
+    char::from(b).to_digit(16).ok_or(Reason::WrongDigit)
+}
+
+// The byte that two hexadecimal digits write.
 fn pair(digits: [u8; 2]) -> Result<u8, Reason>
     ensures { result ≡ ok_or (byte_of (digit (slice_index digits 0)) (digit (slice_index digits 1))) Reason.WrongDigit }
 {
-    let value = |b: u8| char::from(b).to_digit(16).ok_or(Reason::WrongDigit);
     let [high, low] = digits;
-    Ok((value(high)? * 16 + value(low)?) as u8)
+    Ok((hexadecimal_digit(high)? * 16 + hexadecimal_digit(low)?) as u8)
 }
 
 // The bytes of hexadecimal pairs.
