@@ -43,8 +43,9 @@ impl<'a, K: Key> Keys<'a, K> {
         ensures ordered { result.start ≤ result.end }
         ensures within { result.end ≤ length self.now.keys.now }
     {
-        let rest = &self.keys[from..];
-        from..from + rest.iter().take_while(|k| !key.less(k)).count()
+        let rest = self.keys[from..].iter();
+        let end = from + rest.take_while(|k| !key.less(k)).count();
+        from..end
     }
 
     // The rest of the run of the key at `idx`, from there on (scans forward only).
@@ -68,7 +69,8 @@ impl<'a, K: Key> Keys<'a, K> {
     {
         let key = &self.keys[idx];
         let earlier = self.keys[..idx].iter().rev();
-        idx - earlier.take_while(|k| !k.less(key)).count()..idx + 1
+        let start = idx - earlier.take_while(|k| !k.less(key)).count();
+        start..idx + 1
     }
 
     // The run of `key`, empty where there is none.

@@ -17,11 +17,11 @@ offset_bounds-self-from g c =
     let all = (upto-parts (total g.met.K.Key.lawful) c.args.self.now.keys.now c.args.key.now c.args.self.now.sorted).within in
     omega arith
 
-pub slice_bounds-rest-count : goal.slice_bounds-rest-count
-slice_bounds-rest-count g c = offset_bounds-self-from g c
+pub slice_bounds-iter-count : goal.slice_bounds-iter-count
+slice_bounds-iter-count g c = offset_bounds-self-from g c
 
-pub slice_bounds-rest-start : goal.slice_bounds-rest-start
-slice_bounds-rest-start g c = offset_bounds-self-from g c
+pub slice_bounds-iter-start : goal.slice_bounds-iter-start
+slice_bounds-iter-start g c = offset_bounds-self-from g c
 
 pub returns : goal.returns
 returns g c =
@@ -33,7 +33,7 @@ returns g c =
     let all = ps.within in
     let n : c.count.result ≡ prefix_len test rest =
     count_from_yields_List _ c.count.result c.count.ensures.ran
-    (YieldsList-from_take_while _ test (YieldsList-at c.take_while.ensures.source (YieldsList-from_slice rest (c.iter.ensures.rest ∙ between_to_end s.keys.now c.args.from (length s.keys.now) (omega arith)))) c.take_while.ensures.closure c.take_while.ensures.done (λ x b q k. search rules))
+    (YieldsList-from_take_while _ test (YieldsList-at c.take_while.ensures.source (YieldsList-from_slice rest (c.iter-rest.ensures.rest ∙ between_to_end s.keys.now c.args.from (length s.keys.now) (omega arith)))) c.take_while.ensures.closure c.take_while.ensures.done (λ x b q k. search rules))
     ∙ length-prefix_len test rest in
     let end : c.args.from + c.count.result ≡ upto (before g.K.Ord.cmp) s.keys.now key = ap (λ m. c.args.from + m) n ∙ scanned test s.keys.now _ ps c.args.from key c.requires in
     record { start = refl; end = end; ordered = omega arith; within = omega arith }
