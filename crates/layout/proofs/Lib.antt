@@ -1,5 +1,3 @@
-pub mod Alongside
-pub mod Gaps
 pub mod Stacked
 pub mod Used
 pub mod Nearby

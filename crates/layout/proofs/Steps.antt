@@ -21,8 +21,8 @@ use Rattle.store.specs.declared.refusal.Refusal.{Refusal}
 use Rattle.store.specs.declared.refusal.Refusal.TheVariants.{Unsound, NoSpace, FewSlots, PastEnd}
 use Rattle.store.specs.Meaning.{Meaning, Sound, Windows, PutDone, TakeDone, SetDone, Removed, WhyPut, WhyTake, Put, Take, Set, in_part, run_at, first_in, last_in, next_in, previous_in}
 use Rattle.layout.specs.Windows.{spot, used, window, spare, cells_meaning, cells_of, with_window, Counts, Sorts, Slot, Ranged, run_count, PutSlot, HeldSlot}
-use Rattle.layout.proofs.Alongside.{length-entries, places-entries, entries-in, entries-out, entries-gap, entries-set, rising-entries, length_run, key_at}
-use Rattle.layout.proofs.Gaps.{rising-gap, clears-gap}
+use Rattle.contents.proofs.Alongside.{length-entries, places-entries, entries-in, entries-out, entries-gap, entries-set, rising-entries, length_run, key_at}
+use Rattle.contents.proofs.Gaps.{rising-gap, clears-gap}
 use Rattle.layout.proofs.Stacked.{Lt, same-part, rising-stacked, run-stacked, amount-stacked, none-all, none-some, first-stacked, last-stacked, gains-stacked, sets-stacked, clears-stacked}
 use Rattle.layout.proofs.Used.{Wrote, used-out, used-part, length-used, put-wrote, cut-wrote, gap_wrote, set-wrote, unwrote, counts-back}
 
