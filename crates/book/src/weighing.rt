@@ -2,7 +2,7 @@
 use std::fmt;
 
 // The grams that a scale showed.
-#[derive(Clone, Copy)]
+#[derive(Clone, Copy, Default)]
 pub struct Weighing {
     pub scale: u32,
     pub grams: i32,

@@ -48,6 +48,16 @@ impl Report {
         Ok(())
     }
 
+    // Answers a line that has no answer of its own; what was not written is no answer.
+    pub fn fault(&mut self, number: u64, why: Fault) -> Result<(), fmt::Error> {
+        match why {
+            Fault::Refused(why) => writeln!(self.text, "refused {}", why.code())?,
+            Fault::Wrong(why) => self.wrong(number, why)?,
+            Fault::Text(why) => return Err(why),
+        }
+        Ok(())
+    }
+
     // Writes the answer to line `number`, whose run is in the slots.
     pub fn tell<K: SubKey, V: Value>(
         &mut self,
@@ -57,12 +67,7 @@ impl Report {
     ) -> Result<(), fmt::Error> {
         match answer {
             Ok(answer) => self.answer(&answer, slots),
-            Err(Fault::Refused(why)) => {
-                let code = why.code();
-                writeln!(self.text, "refused {code}")?;
-                Ok(())
-            }
-            Err(Fault::Wrong(why)) => self.wrong(number, why),
+            Err(why) => self.fault(number, why),
         }
     }
 
@@ -77,12 +82,10 @@ impl Report {
             Answer::Nothing => self.text.write_str("none\n"),
             Answer::Run(len) => self.run(*len, slots),
             Answer::Found(place, len) => {
-                self.text.write_str("place ")?;
-                self.place(place, ' ')?;
-                self.text.write_str(" ")?;
+                write!(self.text, "place {} {} ", place.partition, place.key)?;
                 self.run(*len, slots)
             }
-            Answer::Walked(places) => self.walk(places.as_slice()),
+            Answer::Walked(places) => self.walk(places),
             Answer::Counted(counts, spills) => self.counts(counts, *spills),
         }
     }
@@ -90,35 +93,28 @@ impl Report {
     // The values of a run, which are the first `len` of the slots.
     fn run<V: Value>(&mut self, len: usize, slots: &[V]) -> Result<(), fmt::Error> {
         self.text.write_str("run")?;
-        for slot in slots.iter().take(len) {
-            let value = *slot;
+        for value in slots.iter().take(len) {
             write!(self.text, " {value}")?;
         }
         self.text.write_str("\n")
-    }
-
-    // A place, its partition and its key with `between` between them.
-    fn place<K: SubKey>(&mut self, place: &Place<K>, between: char) -> Result<(), fmt::Error> {
-        let partition = place.partition;
-        write!(self.text, "{partition}{between}")?;
-        place.key.write_to(&mut self.text)
     }
 
     // The places of a walk.
     fn walk<K: SubKey>(&mut self, places: &[Place<K>]) -> Result<(), fmt::Error> {
         self.text.write_str("walk")?;
         for place in places {
-            self.text.write_str(" ")?;
-            self.place(place, ':')?;
+            write!(self.text, " {}:{}", place.partition, place.key)?;
         }
         self.text.write_str("\n")
     }
 
     // The counts of a book, and the spills of a pile.
     fn counts(&mut self, counts: &Counts, spills: Option<u64>) -> Result<(), fmt::Error> {
-        let keys = counts.keys;
-        let items = counts.items;
-        let pruned = counts.pruned;
+        let Counts {
+            keys,
+            items,
+            pruned,
+        } = counts;
         write!(self.text, "keys {keys} items {items} pruned {pruned}")?;
         if let Some(n) = spills {
             write!(self.text, " spills {n}")?;

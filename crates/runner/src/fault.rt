@@ -1,13 +1,15 @@
-// Why a command has no answer of its own.
+// Why a line has no answer of its own.
 use std::alloc::{AllocError, AllocFailed};
+use std::fmt;
 use store::Refusal;
 use words::Reason;
 
-// The book refused it, or the line is wrong.
-#[derive(Clone, Copy)]
+// The book refused it, the line is wrong, or the answer could not be written.
+#[derive(Drop)]
 pub enum Fault {
     Refused(Refusal),
     Wrong(Reason),
+    Text(fmt::Error),
 }
 
 impl From<Refusal> for Fault {
@@ -19,6 +21,12 @@ impl From<Refusal> for Fault {
 impl From<Reason> for Fault {
     fn from(why: Reason) -> Fault {
         Fault::Wrong(why)
+    }
+}
+
+impl From<fmt::Error> for Fault {
+    fn from(why: fmt::Error) -> Fault {
+        Fault::Text(why)
     }
 }
 

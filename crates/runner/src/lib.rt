@@ -2,14 +2,14 @@
 #![tactic(auto)]
 
 mod answer;
+mod desk;
 mod fault;
 mod memory;
 mod neighbours;
 mod open;
 mod run;
-mod serve;
+mod session;
 mod spills;
-mod stop;
 mod subkey;
 mod value;
 

@@ -1,11 +1,16 @@
 // The memory that the books of a script are given.
-use crate::serve::SLOTS;
+ghost use Rattle.std.specs.Prelude.{◌≡◌};
+ghost use Rattle.side.specs.Table.{TableOk};
+ghost use Rattle.windows.specs.Stores.{WindowsOk};
+
 use crate::subkey::SubKey;
 use crate::value::Value;
-use keys::Place;
+use keys::{Key, Place};
 use script::{Opening, StoreName};
+use side::SideTable;
 use std::alloc::{AllocError, Global};
 use translate::Prefix;
+use windows::WindowStore;
 
 // The most cells that a window has, and that a side-table uses.
 const WINDOW: u64 = 512;
@@ -15,10 +20,14 @@ const SIDE: u64 = 65536;
 // The most cells of windows that a book is given.
 const CELLS: u64 = 268_435_456;
 
+// How many slots are lent after an opening, and at the most.
+const SLOTS: usize = 65536;
+
 // How many cells and lengths a book is given.
 #[derive(Clone, Copy)]
 pub struct Sizes {
-    pub partitions: u64,
+    partitions: u64,
+    window: u64,
     window_cells: usize,
     lengths: usize,
     side_cells: usize,
@@ -32,10 +41,7 @@ fn side_cells(cells: u64) -> usize {
 impl Sizes {
     // The sizes that an opening asks for; none where they are more than a book is given. Windows that are void are given nothing.
     pub fn of(opening: &Opening) -> Option<Sizes> {
-        let partitions = match Prefix::new(opening.prefix) {
-            Some(prefix) => prefix.partitions(),
-            None => 0,
-        };
+        let partitions = Prefix::new(opening.prefix).map_or(0, |prefix| prefix.partitions());
         let (window, side) = match opening.store {
             StoreName::Pocket => (0, 0),
             StoreName::Windows { window } => (window, 0),
@@ -43,7 +49,7 @@ impl Sizes {
             StoreName::Pile { window, cells } => (window, cells),
             StoreName::PocketPile { cells } => (0, cells),
         };
-        let (lengths, window_cells) = if window >= 1 && window <= WINDOW {
+        let (lengths, window_cells) = if (1..=WINDOW).contains(&window) {
             (partitions, partitions.checked_mul(window)?)
         } else {
             (0, 0)
@@ -53,47 +59,19 @@ impl Sizes {
         }
         Some(Sizes {
             partitions,
+            window,
             window_cells: window_cells as usize,
             lengths: lengths as usize,
             side_cells: side_cells(side),
         })
     }
-}
 
-// Cells that hold `x` each.
-fn filled<X: Copy + Drop>(heap: Global, x: X, len: usize) -> Result<Vec<X>, AllocError> {
-    let mut cells = Vec::with_capacity(heap, len)?;
-    for _ in 0..len {
-        cells.push(x)?;
-    }
-    Ok(cells)
-}
-
-// The cells of a side-table.
-#[derive(Drop)]
-pub struct SideMemory<K, V> {
-    pub keys: Vec<Place<K>>,
-    pub values: Vec<V>,
-}
-
-// The cells and lengths of windows.
-#[derive(Drop)]
-pub struct WindowMemory<K, V> {
-    pub keys: Vec<K>,
-    pub values: Vec<V>,
-    pub lengths: Vec<u64>,
-}
-
-impl Sizes {
     // The memory of the side-table.
     pub fn side<K: SubKey, V: Value>(self, heap: Global) -> Result<SideMemory<K, V>, AllocError> {
-        let place = Place {
-            partition: 0,
-            key: K::zero(),
-        };
         Ok(SideMemory {
-            keys: filled(heap, place, self.side_cells)?,
-            values: filled(heap, V::zero(), self.side_cells)?,
+            keys: vec![in heap; Place::default(); self.side_cells]?,
+            values: vec![in heap; V::default(); self.side_cells]?,
+            partitions: self.partitions,
         })
     }
 
@@ -103,9 +81,10 @@ impl Sizes {
         heap: Global,
     ) -> Result<WindowMemory<K, V>, AllocError> {
         Ok(WindowMemory {
-            keys: filled(heap, K::zero(), self.window_cells)?,
-            values: filled(heap, V::zero(), self.window_cells)?,
-            lengths: filled(heap, 0, self.lengths)?,
+            keys: vec![in heap; K::default(); self.window_cells]?,
+            values: vec![in heap; V::default(); self.window_cells]?,
+            lengths: vec![in heap; 0; self.lengths]?,
+            window: self.window,
         })
     }
 
@@ -115,7 +94,53 @@ impl Sizes {
     }
 }
 
+// The cells of a side-table.
+#[derive(Drop)]
+pub struct SideMemory<K, V> {
+    keys: Vec<Place<K>>,
+    values: Vec<V>,
+    partitions: u64,
+}
+
+impl<K: SubKey, V: Value> SideMemory<K, V> {
+    // An empty side-table in this memory.
+    pub fn open(&mut self) -> SideTable<'_, K, V>
+        ensures { TableOk K.cmp result }
+    {
+        let SideMemory {
+            keys,
+            values,
+            partitions,
+        } = self;
+        SideTable::open(keys, values, *partitions)
+    }
+}
+
+// The cells and lengths of windows.
+#[derive(Drop)]
+pub struct WindowMemory<K, V> {
+    keys: Vec<K>,
+    values: Vec<V>,
+    lengths: Vec<u64>,
+    window: u64,
+}
+
+impl<K: SubKey, V: Value> WindowMemory<K, V> {
+    // Empty windows in this memory.
+    pub fn open(&mut self) -> WindowStore<'_, K, V>
+        ensures { WindowsOk K.cmp result }
+    {
+        let WindowMemory {
+            keys,
+            values,
+            lengths,
+            window,
+        } = self;
+        WindowStore::open(keys, values, lengths, *window)
+    }
+}
+
 // The slots of a book's reads.
 pub fn slots<V: Value>(heap: Global) -> Result<Vec<V>, AllocError> {
-    filled(heap, V::zero(), SLOTS)
+    vec![in heap; V::default(); SLOTS]
 }

@@ -3,10 +3,10 @@ ghost use Rattle.book.specs.State.{BookOk};
 
 use crate::fault::Fault;
 use book::Book;
-use keys::{Key, Place};
+use keys::{Key, Label, Place};
 use std::alloc::Global;
 use store::Store;
-use translate::{OrderedTranslator, Translator};
+use translate::{Cap, Fold, Labels, OrderedTranslator, Translator};
 use words::Reason;
 
 // An end of a book.
@@ -44,10 +44,10 @@ impl<T: OrderedTranslator> Neighbours<T> for Ordered {
         book: &Book<S, T>,
         end: End,
     ) -> Result<Option<Place<T::Key>>, Fault> {
-        match end {
-            End::First => Ok(book.first()?),
-            End::Last => Ok(book.last()?),
-        }
+        Ok(match end {
+            End::First => book.first()?,
+            End::Last => book.last()?,
+        })
     }
 
     fn walk<S: Store<Key = T::Key>>(
@@ -81,4 +81,21 @@ impl<T: Translator> Neighbours<T> for Unordered {
     ) -> Result<Vec<Place<T::Key>>, Fault> {
         Err(Fault::Wrong(Reason::NoOrder))
     }
+}
+
+// A translator that a script can name, with what its books can be asked of their order.
+pub trait Named: Translator + Copy + Drop {
+    type Order: Neighbours<Self>;
+}
+
+impl Named for Cap {
+    type Order = Ordered;
+}
+
+impl Named for Labels {
+    type Order = Ordered;
+}
+
+impl Named for Fold {
+    type Order = Unordered;
 }

@@ -1,320 +1,145 @@
 // Opens the books of a script: each choice that an opening names is one match.
-ghost use Rattle.std.specs.Prelude.{◌<◌, ◌≤◌, length, IfOk};
+ghost use Rattle.std.specs.Prelude.{◌≤◌, length};
 
-use crate::answer::Report;
+use crate::desk::Desk;
+use crate::fault::Fault;
 use crate::memory::{Sizes, slots};
-use crate::neighbours::{Neighbours, Ordered, Unordered};
-use crate::serve::serve;
+use crate::neighbours::Named;
+use crate::session::Session;
 use crate::spills::Spills;
-use crate::stop::Stop;
 use crate::subkey::SubKey;
 use crate::value::Value;
 use book::{Book, Weighing};
 use keys::{Key, Label};
 use pile::Pile;
-use script::{Line, Opening, StoreName, TranslatorName, ValuesName};
-use side::SideTable;
+use script::{Opening, StoreName, TranslatorName, ValuesName};
 use std::alloc::Global;
-use std::fmt;
 use store::{Store, Windowed};
 use translate::{Cap, Fold, Labels, Translator};
-use windows::{Pocket, WindowStore};
+use windows::Pocket;
 use words::Reason;
 
-// Opens a book over a store, and answers its lines; says where it stopped.
-fn over<
-    K: SubKey,
-    V: Value,
-    S: Store<Key = K, Value = V> + Spills + Drop,
-    T: Translator<Key = K> + Drop,
-    N: Neighbours<T>,
->(
-    heap: Global,
+// A book that is to be opened: what the script asks for, the sizes of its memory, and its translator.
+#[derive(Clone, Copy)]
+struct Plan<'a, T> {
+    opening: &'a Opening,
+    sizes: Sizes,
     translator: T,
-    store: S,
-    opening: &Opening,
-    lines: &[Line],
-    at: usize,
-    report: &mut Report,
-) -> Result<usize, Stop>
-    requires ok { S.Store.ok store }
-    requires within { at < length lines.now }
-    ensures { IfOk result (λ n. (at < n) × (n ≤ length lines.now)) }
-{
-    let mut slots = slots::<V>(heap)?;
-    let mut book = Book::open(opening.label, opening.prefix, store, translator);
-    report.opened()?;
-    Ok(serve::<K, V, S, T, N>(heap, &mut book, &mut slots[..], lines, at + 1, report)?)
 }
 
-// Over a side-table.
-fn over_side<K: SubKey, V: Value, T: Translator<Key = K> + Drop, N: Neighbours<T>>(
-    heap: Global,
-    translator: T,
-    opening: &Opening,
-    sizes: Sizes,
-    lines: &[Line],
-    at: usize,
-    report: &mut Report,
-) -> Result<usize, Stop>
-    requires { at < length lines.now }
-    ensures { IfOk result (λ n. (at < n) × (n ≤ length lines.now)) }
-{
-    let mut memory = sizes.side::<K, V>(heap)?;
-    let side = SideTable::open(
-        &mut memory.keys[..],
-        &mut memory.values[..],
-        sizes.partitions,
-    );
-    over::<K, V, _, T, N>(heap, translator, side, opening, lines, at, report)
-}
-
-// Over windows of `window` cells.
-fn over_windows<K: SubKey, V: Value, T: Translator<Key = K> + Drop, N: Neighbours<T>>(
-    window: u64,
-    heap: Global,
-    translator: T,
-    opening: &Opening,
-    sizes: Sizes,
-    lines: &[Line],
-    at: usize,
-    report: &mut Report,
-) -> Result<usize, Stop>
-    requires { at < length lines.now }
-    ensures { IfOk result (λ n. (at < n) × (n ≤ length lines.now)) }
-{
-    let mut memory = sizes.windows::<K, V>(heap)?;
-    let windows = WindowStore::open(
-        &mut memory.keys[..],
-        &mut memory.values[..],
-        &mut memory.lengths[..],
-        window,
-    );
-    over::<K, V, _, T, N>(heap, translator, windows, opening, lines, at, report)
-}
-
-// Over a pile of any windows on a side-table.
-fn over_pile<
-    K: SubKey,
-    V: Value,
-    W: Windowed<Key = K, Value = V> + Drop,
-    T: Translator<Key = K> + Drop,
-    N: Neighbours<T>,
->(
-    windows: W,
-    heap: Global,
-    translator: T,
-    opening: &Opening,
-    sizes: Sizes,
-    lines: &[Line],
-    at: usize,
-    report: &mut Report,
-) -> Result<usize, Stop>
-    requires ok { W.Store.ok windows }
-    requires within { at < length lines.now }
-    ensures { IfOk result (λ n. (at < n) × (n ≤ length lines.now)) }
-{
-    let mut memory = sizes.side::<K, V>(heap)?;
-    let side = SideTable::open(
-        &mut memory.keys[..],
-        &mut memory.values[..],
-        sizes.partitions,
-    );
-    over::<K, V, _, T, N>(
-        heap,
-        translator,
-        Pile::open(windows, side),
-        opening,
-        lines,
-        at,
-        report,
-    )
-}
-
-// Over a pile of windows of `window` cells.
-fn over_window_pile<K: SubKey, V: Value, T: Translator<Key = K> + Drop, N: Neighbours<T>>(
-    window: u64,
-    heap: Global,
-    translator: T,
-    opening: &Opening,
-    sizes: Sizes,
-    lines: &[Line],
-    at: usize,
-    report: &mut Report,
-) -> Result<usize, Stop>
-    requires { at < length lines.now }
-    ensures { IfOk result (λ n. (at < n) × (n ≤ length lines.now)) }
-{
-    let mut memory = sizes.windows::<K, V>(heap)?;
-    let windows = WindowStore::open(
-        &mut memory.keys[..],
-        &mut memory.values[..],
-        &mut memory.lengths[..],
-        window,
-    );
-    over_pile::<K, V, _, T, N>(windows, heap, translator, opening, sizes, lines, at, report)
-}
-
-// By the store; the pocket is for number keys and positions, and is no choice here.
-fn by_store<K: SubKey, V: Value, T: Translator<Key = K> + Drop, N: Neighbours<T>>(
-    heap: Global,
-    translator: T,
-    opening: &Opening,
-    sizes: Sizes,
-    lines: &[Line],
-    at: usize,
-    report: &mut Report,
-) -> Result<usize, Stop>
-    requires { at < length lines.now }
-    ensures { IfOk result (λ n. (at < n) × (n ≤ length lines.now)) }
-{
-    match opening.store {
-        StoreName::Side { cells: _ } => over_side::<K, V, T, N>(
-            heap, translator, opening, sizes, lines, at, report,
-        ),
-        StoreName::Windows { window } => over_windows::<K, V, T, N>(
-            window, heap, translator, opening, sizes, lines, at, report,
-        ),
-        StoreName::Pile { window, cells: _ } => over_window_pile::<K, V, T, N>(
-            window, heap, translator, opening, sizes, lines, at, report,
-        ),
-        _ => Err(Stop::Wrong(Reason::OtherStore)),
-    }
-}
-
-// Over the pocket, or a pile on it.
-fn over_pocket<T: Translator<Key = u32> + Drop, N: Neighbours<T>>(
-    heap: Global,
-    translator: T,
-    opening: &Opening,
-    sizes: Sizes,
-    lines: &[Line],
-    at: usize,
-    report: &mut Report,
-) -> Result<usize, Stop>
-    requires { at < length lines.now }
-    ensures { IfOk result (λ n. (at < n) × (n ≤ length lines.now)) }
-{
-    match opening.store {
-        StoreName::PocketPile { cells: _ } => over_pile::<u32, u64, _, T, N>(
-            Pocket::open(),
-            heap,
-            translator,
+impl<'a, K: SubKey, T: Named<Key = K>> Plan<'a, T> {
+    // A book of that translator, where its memory is not more than a book is given.
+    fn new(opening: &'a Opening, translator: T) -> Result<Plan<'a, T>, Reason> {
+        let sizes = Sizes::of(opening).ok_or(Reason::NoMemory)?;
+        Ok(Plan {
             opening,
             sizes,
-            lines,
-            at,
-            report,
-        ),
-        _ => over::<u32, u64, _, T, N>(
-            heap,
             translator,
-            Pocket::open(),
-            opening,
-            lines,
-            at,
-            report,
-        ),
+        })
+    }
+
+    // Opens the book over a store, and answers its lines.
+    fn over<V: Value, S: Store<Key = K, Value = V> + Spills + Drop>(
+        self,
+        store: S,
+        session: &mut Session<'_>,
+    ) -> Result<(), Fault>
+        requires { S.Store.ok store }
+        ensures { length session.new.lines.now ≤ length session.old.lines.now }
+    {
+        let mut slots = slots::<V>(session.heap)?;
+        let book = Book::open(
+            self.opening.label,
+            self.opening.prefix,
+            store,
+            self.translator,
+        );
+        session.report.opened()?;
+        Ok(session.serve(&mut Desk::new(book, &mut slots))?)
+    }
+
+    // By the store; the pocket is for number keys and positions, and is no choice here.
+    fn by_store<V: Value>(self, session: &mut Session<'_>) -> Result<(), Fault>
+        ensures { length session.new.lines.now ≤ length session.old.lines.now }
+    {
+        match self.opening.store {
+            StoreName::Side { .. } => {
+                let mut side = self.sizes.side::<K, V>(session.heap)?;
+                self.over(side.open(), session)
+            }
+            StoreName::Windows { .. } => {
+                let mut windows = self.sizes.windows::<K, V>(session.heap)?;
+                self.over(windows.open(), session)
+            }
+            StoreName::Pile { .. } => {
+                let mut windows = self.sizes.windows::<K, V>(session.heap)?;
+                let mut side = self.sizes.side::<K, V>(session.heap)?;
+                self.over(Pile::open(windows.open(), side.open()), session)
+            }
+            StoreName::Pocket | StoreName::PocketPile { .. } => {
+                Err(Fault::Wrong(Reason::OtherStore))
+            }
+        }
+    }
+
+    // By the values that the book holds.
+    fn by_values(self, session: &mut Session<'_>) -> Result<(), Fault>
+        ensures { length session.new.lines.now ≤ length session.old.lines.now }
+    {
+        match self.opening.values {
+            ValuesName::Position => self.by_store::<u64>(session),
+            ValuesName::Weighing => self.by_store::<Weighing>(session),
+        }
     }
 }
 
-// By the values that the book holds.
-fn by_values<K: SubKey, T: Translator<Key = K> + Drop, N: Neighbours<T>>(
-    heap: Global,
-    translator: T,
-    opening: &Opening,
-    sizes: Sizes,
-    lines: &[Line],
-    at: usize,
-    report: &mut Report,
-) -> Result<usize, Stop>
-    requires { at < length lines.now }
-    ensures { IfOk result (λ n. (at < n) × (n ≤ length lines.now)) }
-{
-    match opening.values {
-        ValuesName::Position => by_store::<K, u64, T, N>(
-            heap, translator, opening, sizes, lines, at, report,
-        ),
-        ValuesName::Weighing => by_store::<K, Weighing, T, N>(
-            heap, translator, opening, sizes, lines, at, report,
-        ),
+impl<T: Named<Key = u32>> Plan<'_, T> {
+    // Over the pocket, or a pile on it.
+    fn over_pocket(self, session: &mut Session<'_>) -> Result<(), Fault>
+        ensures { length session.new.lines.now ≤ length session.old.lines.now }
+    {
+        match self.opening.store {
+            StoreName::PocketPile { .. } => {
+                let mut side = self.sizes.side::<u32, u64>(session.heap)?;
+                self.over(Pile::open(Pocket::open(), side.open()), session)
+            }
+            _ => self.over(Pocket::open(), session),
+        }
     }
+}
+
+// Whether an opening names the pocket, or a pile on it.
+fn names_pocket(opening: &Opening) -> bool {
+    matches!(
+        opening.store,
+        StoreName::Pocket | StoreName::PocketPile { .. }
+    )
 }
 
 // Whether the book of an opening has its windows in a pocket: it must hold number keys and positions.
 fn in_pocket(opening: &Opening) -> bool {
-    match (opening.store, opening.values) {
-        (StoreName::Pocket, ValuesName::Position) => true,
-        (StoreName::PocketPile { cells: _ }, ValuesName::Position) => true,
-        _ => false,
-    }
+    names_pocket(opening) && matches!(opening.values, ValuesName::Position)
 }
 
-// By the translator, and whether the windows are in a pocket.
-fn by_translator(
-    heap: Global,
-    opening: &Opening,
-    lines: &[Line],
-    at: usize,
-    report: &mut Report,
-) -> Result<usize, Stop>
-    requires { at < length lines.now }
-    ensures { IfOk result (λ n. (at < n) × (n ≤ length lines.now)) }
-{
-    let Some(sizes) = Sizes::of(opening) else {
-        return Err(Stop::Wrong(Reason::NoMemory));
-    };
-    match (opening.translator, in_pocket(opening)) {
-        (TranslatorName::Cap, false) => by_values::<u32, Cap, Ordered>(
-            heap, Cap, opening, sizes, lines, at, report,
-        ),
-        (TranslatorName::Cap, true) => over_pocket::<Cap, Ordered>(
-            heap, Cap, opening, sizes, lines, at, report,
-        ),
-        (TranslatorName::Fold, false) => by_values::<u32, Fold, Unordered>(
-            heap, Fold, opening, sizes, lines, at, report,
-        ),
-        (TranslatorName::Fold, true) => over_pocket::<Fold, Unordered>(
-            heap, Fold, opening, sizes, lines, at, report,
-        ),
-        (TranslatorName::Label, _) => by_values::<Label, Labels, Ordered>(
-            heap, Labels, opening, sizes, lines, at, report,
-        ),
-    }
-}
-
-// Opens the book that line `at` names, and answers the lines up to the next opening; says where it stopped.
-pub fn open(
-    heap: Global,
-    opening: &Opening,
-    lines: &[Line],
-    at: usize,
-    report: &mut Report,
-) -> Result<usize, fmt::Error>
-    requires { at < length lines.now }
-    ensures { IfOk result (λ n. (at < n) × (n ≤ length lines.now)) }
-{
-    match by_translator(heap, opening, lines, at, report) {
-        Ok(stopped) => Ok(stopped),
-        Err(Stop::Wrong(why)) => {
-            report.wrong(lines[at].number, why)?;
-            Ok(at + 1)
+impl Session<'_> {
+    // Opens the book that a line names, and answers the lines up to the next opening: by the translator, and whether the windows are in a pocket.
+    pub fn open(&mut self, opening: &Opening) -> Result<(), Fault>
+        ensures { length self.new.lines.now ≤ length self.old.lines.now }
+    {
+        match (opening.translator, in_pocket(opening)) {
+            (TranslatorName::Cap, false) => Plan::new(opening, Cap)?.by_values(self),
+            (TranslatorName::Cap, true) => Plan::new(opening, Cap)?.over_pocket(self),
+            (TranslatorName::Fold, false) => Plan::new(opening, Fold)?.by_values(self),
+            (TranslatorName::Fold, true) => Plan::new(opening, Fold)?.over_pocket(self),
+            (TranslatorName::Label, _) => Plan::new(opening, Labels)?.by_values(self),
         }
-        Err(Stop::Text(why)) => Err(why),
     }
 }
 
 // Why a book cannot be opened beside all that is in use, if so: its store does not fit, or there is no memory.
 pub fn cannot_open(heap: Global, opening: &Opening) -> Option<Reason> {
-    let label = match opening.translator {
-        TranslatorName::Label => true,
-        _ => false,
-    };
-    let pocket = match opening.store {
-        StoreName::Pocket | StoreName::PocketPile { cells: _ } => true,
-        _ => false,
-    };
-    if pocket && (label || !in_pocket(opening)) {
+    let label = matches!(opening.translator, TranslatorName::Label);
+    if names_pocket(opening) && (label || !in_pocket(opening)) {
         return Some(Reason::OtherStore);
     }
     let Some(sizes) = Sizes::of(opening) else {
@@ -326,5 +151,5 @@ pub fn cannot_open(heap: Global, opening: &Opening) -> Option<Reason> {
         (false, ValuesName::Position) => sizes.fit::<u32, u64>(heap),
         (false, ValuesName::Weighing) => sizes.fit::<u32, Weighing>(heap),
     };
-    if fit { None } else { Some(Reason::NoMemory) }
+    (!fit).then_some(Reason::NoMemory)
 }

@@ -1,39 +1,42 @@
 // Runs a whole script.
-ghost use Rattle.std.specs.Prelude.{◌<◌, ◌≤◌, length, IfOk};
+ghost use Rattle.std.specs.Prelude.{◌≤◌, length};
 
 use crate::answer::Report;
-use crate::open::open;
+use crate::fault::Fault;
+use crate::session::Session;
 use script::{Command, Line, read_script};
 use std::alloc::Global;
 use std::fmt;
 use words::Reason;
 
-// Answers line `at` while no book is open, and the lines of the book that it opens; says where it stopped.
-fn run_from(
-    heap: Global,
-    lines: &[Line],
-    at: usize,
-    report: &mut Report,
-) -> Result<usize, fmt::Error>
-    requires { at < length lines.now }
-    ensures { IfOk result (λ n. (at < n) × (n ≤ length lines.now)) }
-{
-    let line = &lines[at];
-    match &line.command {
-        Ok(Command::Open(opening)) => return open(heap, opening, lines, at, report),
-        Ok(Command::Call(_)) => report.wrong(line.number, Reason::NoBook)?,
-        Err(why) => report.wrong(line.number, *why)?,
+impl Session<'_> {
+    // Answers a line while no book is open; where it opens one, the lines of that book too.
+    fn run_line(&mut self, line: &Line) -> Result<(), Fault>
+        ensures { length self.new.lines.now ≤ length self.old.lines.now }
+    {
+        match &line.command {
+            Ok(Command::Open(opening)) => self.open(opening),
+            Ok(Command::Call(_)) => Err(Fault::Wrong(Reason::NoBook)),
+            Err(why) => Err(Fault::Wrong(*why)),
+        }
     }
-    Ok(at + 1)
+
+    // Answers all lines.
+    fn run(&mut self) -> Result<(), fmt::Error> {
+        while let [line, rest @ ..] = self.lines {
+            self.lines = rest;
+            if let Err(why) = self.run_line(line) {
+                self.report.fault(line.number, why)?;
+            }
+        }
+        Ok(())
+    }
 }
 
 // What a script is answered.
 pub fn run_script(heap: Global, script: &[u8]) -> anyhow::Result<Report> {
     let lines = read_script(heap, script)?;
-    let mut report = Report::new(heap);
-    let mut at = 0;
-    while at < lines.len() {
-        at = run_from(heap, lines.as_slice(), at, &mut report)?;
-    }
-    Ok(report)
+    let mut session = Session::new(heap, &lines);
+    session.run()?;
+    Ok(session.report)
 }

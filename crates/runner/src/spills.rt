@@ -6,26 +6,16 @@ use windows::{Pocket, WindowStore};
 
 // Only a pile counts spills.
 pub trait Spills {
-    fn spilled(&self) -> Option<u64>;
-}
-
-impl<'a, K, V> Spills for SideTable<'a, K, V> {
     fn spilled(&self) -> Option<u64> {
         None
     }
 }
 
-impl<'a, K, V> Spills for WindowStore<'a, K, V> {
-    fn spilled(&self) -> Option<u64> {
-        None
-    }
-}
+impl<'a, K, V> Spills for SideTable<'a, K, V> {}
 
-impl Spills for Pocket {
-    fn spilled(&self) -> Option<u64> {
-        None
-    }
-}
+impl<'a, K, V> Spills for WindowStore<'a, K, V> {}
+
+impl Spills for Pocket {}
 
 impl<W: Windowed, S: Store<Key = W::Key, Value = W::Value>> Spills for Pile<W, S> {
     fn spilled(&self) -> Option<u64> {

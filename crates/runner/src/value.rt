@@ -3,37 +3,26 @@ use book::Weighing;
 use std::fmt;
 use words::ValueWord;
 
-// A value that a word of a script can write.
-pub trait Value: Clone + Copy + Drop + fmt::Display {
+// A value that a word of a script can write; the default is what a cell holds before it is used.
+pub trait Value: Copy + Default + Drop + fmt::Display {
     // The value of a word, where it is one of these values.
     fn from_word(word: ValueWord) -> Option<Self>;
-
-    // What a cell holds before it is used.
-    fn zero() -> Self;
 }
 
 impl Value for u64 {
     fn from_word(word: ValueWord) -> Option<u64> {
-        match word {
-            ValueWord::Position(n) => Some(n),
-            ValueWord::Weighing { scale: _, grams: _ } => None,
-        }
-    }
-
-    fn zero() -> u64 {
-        0
+        let ValueWord::Position(n) = word else {
+            return None;
+        };
+        Some(n)
     }
 }
 
 impl Value for Weighing {
     fn from_word(word: ValueWord) -> Option<Weighing> {
-        match word {
-            ValueWord::Position(_) => None,
-            ValueWord::Weighing { scale, grams } => Some(Weighing { scale, grams }),
-        }
-    }
-
-    fn zero() -> Weighing {
-        Weighing { scale: 0, grams: 0 }
+        let ValueWord::Weighing { scale, grams } = word else {
+            return None;
+        };
+        Some(Weighing { scale, grams })
     }
 }

@@ -1,0 +1,106 @@
+// Answers the calls of a script from one book.
+ghost use Rattle.std.specs.Prelude.{◌≡◌, ◌≤◌, length};
+ghost use Rattle.book.specs.State.{BookOk};
+
+use crate::answer::Answer;
+use crate::fault::Fault;
+use crate::neighbours::{End, Named, Neighbours};
+use crate::spills::Spills;
+use crate::subkey::SubKey;
+use crate::value::Value;
+use book::Book;
+use keys::{Key, Place};
+use script::Call;
+use std::alloc::Global;
+use store::Store;
+use translate::Translator;
+use words::{Reason, SubkeyWord, ValueWord};
+
+// A book with its slots, of which the first `lent` are handed to its reads.
+#[derive(Drop)]
+pub struct Desk<'a, S, T, V> {
+    pub book: Book<S, T>,
+    pub slots: &'a mut [V],
+    lent: usize,
+    ghost within: { lent ≤ length slots.now },
+}
+
+impl<'a, K: SubKey, V: Value, S: Store<Key = K, Value = V> + Spills, T: Named<Key = K>> Desk<
+    'a,
+    S,
+    T,
+    V,
+> {
+    // All slots are lent.
+    pub fn new(book: Book<S, T>, slots: &'a mut [V]) -> Desk<'a, S, T, V>
+        ensures { result.book ≡ book }
+    {
+        let lent = slots.len();
+        Desk { book, slots, lent }
+    }
+
+    // Books a value under a key.
+    fn insert(&mut self, key: &[u8], word: ValueWord) -> Result<Answer<K>, Fault>
+        requires { BookOk S.Store.meaning S.Store.ok K.cmp self.old.book }
+        ensures { BookOk S.Store.meaning S.Store.ok K.cmp self.new.book }
+    {
+        let value = V::from_word(word).ok_or(Reason::OtherValues)?;
+        self.book.insert(key, value)?;
+        Ok(Answer::Done)
+    }
+
+    // The run of a key.
+    fn get(&mut self, key: &[u8]) -> Result<Answer<K>, Fault>
+        requires { BookOk S.Store.meaning S.Store.ok K.cmp self.old.book }
+        ensures { BookOk S.Store.meaning S.Store.ok K.cmp self.new.book }
+    {
+        let len = self.book.get(key, &mut self.slots[..self.lent])?;
+        Ok(Answer::Run(len))
+    }
+
+    // The run at a place.
+    fn run_at(&mut self, partition: u64, word: &SubkeyWord) -> Result<Answer<K>, Fault>
+        requires { BookOk S.Store.meaning S.Store.ok K.cmp self.old.book }
+        ensures { BookOk S.Store.meaning S.Store.ok K.cmp self.new.book }
+    {
+        let key = K::from_word(word).ok_or(Reason::OtherKeys)?;
+        let place = Place { partition, key };
+        let len = self.book.run(&place, &mut self.slots[..self.lent])?;
+        Ok(Answer::Run(len))
+    }
+
+    // The place at an end of the book, with its run, for which all slots are lent.
+    fn end_run(&mut self, end: End) -> Result<Answer<K>, Fault>
+        requires { BookOk S.Store.meaning S.Store.ok K.cmp self.old.book }
+        ensures { BookOk S.Store.meaning S.Store.ok K.cmp self.new.book }
+    {
+        let Some(place) = T::Order::at_end(&self.book, end)? else {
+            return Ok(Answer::Nothing);
+        };
+        let len = self.book.run(&place, self.slots)?;
+        Ok(Answer::Found(place, len))
+    }
+
+    // The answer to one call.
+    pub fn answer(&mut self, heap: Global, call: &Call) -> Result<Answer<K>, Fault>
+        requires { BookOk S.Store.meaning S.Store.ok K.cmp self.old.book }
+        ensures { BookOk S.Store.meaning S.Store.ok K.cmp self.new.book }
+    {
+        match call {
+            Call::Slots(n) => {
+                self.lent = self.slots.len().min(*n);
+                Ok(Answer::Done)
+            }
+            Call::Insert { key, value } => self.insert(key, *value),
+            Call::Get { key } => self.get(key),
+            Call::Run { partition, subkey } => self.run_at(*partition, subkey),
+            Call::First => self.end_run(End::First),
+            Call::Last => self.end_run(End::Last),
+            Call::Walk => Ok(Answer::Walked(T::Order::walk(heap, &self.book)?)),
+            Call::Counts => {
+                let counts = self.book.counts()?;
+                Ok(Answer::Counted(counts, self.book.store().spilled()))
+            }
+        }
+    }
+}
