@@ -1,4 +1,7 @@
 // What a line is answered, and the text of all answers.
+ghost use Rattle.std.specs.Prelude.{◌≡◌, true, false};
+ghost use Rattle.runner.specs.Marks.{marked};
+
 use crate::fault::Fault;
 use crate::subkey::SubKey;
 use crate::value::Value;
@@ -29,7 +32,9 @@ pub struct Report {
 
 impl Report {
     // A report of no lines.
-    pub fn new(heap: Global) -> Report {
+    pub fn new(heap: Global) -> Report
+        ensures { result.wrong ≡ false }
+    {
         Report {
             text: String::new(heap),
             wrong: false,
@@ -42,14 +47,18 @@ impl Report {
     }
 
     // Answers a wrong line.
-    pub fn wrong(&mut self, number: u64, why: Reason) -> Result<(), fmt::Error> {
+    pub fn wrong(&mut self, number: u64, why: Reason) -> Result<(), fmt::Error>
+        ensures { self.new.wrong ≡ true }
+    {
         self.wrong = true;
         writeln!(self.text, "error line {number}: {why}")?;
         Ok(())
     }
 
     // Answers a line that has no answer of its own; what was not written is no answer.
-    pub fn fault(&mut self, number: u64, why: Fault) -> Result<(), fmt::Error> {
+    pub fn fault(&mut self, number: u64, why: Fault) -> Result<(), fmt::Error>
+        ensures { self.new.wrong ≡ marked self.old.wrong why }
+    {
         match why {
             Fault::Refused(why) => writeln!(self.text, "refused {}", why.code())?,
             Fault::Wrong(why) => self.wrong(number, why)?,

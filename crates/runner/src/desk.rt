@@ -1,17 +1,20 @@
-// Answers the calls of a script from one book.
+// Answers the lines of a script from one book.
 ghost use Rattle.std.specs.Prelude.{◌≡◌, ◌≤◌, length};
 ghost use Rattle.book.specs.State.{BookOk};
 
 use crate::answer::Answer;
 use crate::fault::Fault;
 use crate::neighbours::{End, Named, Neighbours};
+use crate::open::cannot_open;
+use crate::session::Session;
 use crate::spills::Spills;
 use crate::subkey::SubKey;
 use crate::value::Value;
 use book::Book;
 use keys::{Key, Place};
-use script::Call;
+use script::{Call, Command};
 use std::alloc::Global;
+use std::fmt;
 use store::Store;
 use translate::Translator;
 use words::{Reason, SubkeyWord, ValueWord};
@@ -19,8 +22,8 @@ use words::{Reason, SubkeyWord, ValueWord};
 // A book with its slots, of which the first `lent` are handed to its reads.
 #[derive(Drop)]
 pub struct Desk<'a, S, T, V> {
-    pub book: Book<S, T>,
-    pub slots: &'a mut [V],
+    book: Book<S, T>,
+    slots: &'a mut [V],
     lent: usize,
     ghost within: { lent ≤ length slots.now },
 }
@@ -33,7 +36,8 @@ impl<'a, K: SubKey, V: Value, S: Store<Key = K, Value = V> + Spills, T: Named<Ke
 > {
     // All slots are lent.
     pub fn new(book: Book<S, T>, slots: &'a mut [V]) -> Desk<'a, S, T, V>
-        ensures { result.book ≡ book }
+        ensures book { result.book ≡ book }
+        ensures lent { result.lent ≡ length slots.old }
     {
         let lent = slots.len();
         Desk { book, slots, lent }
@@ -82,7 +86,7 @@ impl<'a, K: SubKey, V: Value, S: Store<Key = K, Value = V> + Spills, T: Named<Ke
     }
 
     // The answer to one call.
-    pub fn answer(&mut self, heap: Global, call: &Call) -> Result<Answer<K>, Fault>
+    fn answer(&mut self, heap: Global, call: &Call) -> Result<Answer<K>, Fault>
         requires { BookOk S.Store.meaning S.Store.ok K.cmp self.old.book }
         ensures { BookOk S.Store.meaning S.Store.ok K.cmp self.new.book }
     {
@@ -102,5 +106,25 @@ impl<'a, K: SubKey, V: Value, S: Store<Key = K, Value = V> + Spills, T: Named<Ke
                 Ok(Answer::Counted(counts, self.book.store().spilled()))
             }
         }
+    }
+
+    // Answers the lines that are left, up to the line that opens the next book or to the end.
+    pub fn serve(&mut self, session: &mut Session<'_>) -> Result<(), fmt::Error>
+        requires { BookOk S.Store.meaning S.Store.ok K.cmp self.old.book }
+        ensures { length session.new.lines.now ≤ length session.old.lines.now }
+    {
+        while let [line, rest @ ..] = session.lines {
+            let answer = match &line.command {
+                Ok(Command::Open(opening)) => match cannot_open(session.heap, opening) {
+                    None => return Ok(()),
+                    Some(why) => Err(Fault::Wrong(why)),
+                },
+                Ok(Command::Call(call)) => self.answer(session.heap, call),
+                Err(why) => Err(Fault::Wrong(*why)),
+            };
+            session.report.tell(line.number, answer, self.slots)?;
+            session.lines = rest;
+        }
+        Ok(())
     }
 }

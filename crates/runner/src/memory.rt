@@ -1,7 +1,8 @@
 // The memory that the books of a script are given.
-ghost use Rattle.std.specs.Prelude.{◌≡◌};
-ghost use Rattle.side.specs.Table.{TableOk};
-ghost use Rattle.windows.specs.Stores.{WindowsOk};
+ghost use Rattle.std.specs.Prelude.{◌≡◌, IfOk, vec_len};
+ghost use Rattle.side.specs.Table.{TableOk, table_meaning, opened as opened_side};
+ghost use Rattle.windows.specs.Windows.{opened as opened_windows};
+ghost use Rattle.windows.specs.Stores.{WindowsOk, windows_meaning};
 
 use crate::subkey::SubKey;
 use crate::value::Value;
@@ -105,7 +106,8 @@ pub struct SideMemory<K, V> {
 impl<K: SubKey, V: Value> SideMemory<K, V> {
     // An empty side-table in this memory.
     pub fn open(&mut self) -> SideTable<'_, K, V>
-        ensures { TableOk K.cmp result }
+        ensures ok { TableOk K.cmp result }
+        ensures meaning { table_meaning result ≡ opened_side (vec_len self.old.keys) (vec_len self.old.values) self.old.partitions }
     {
         let SideMemory {
             keys,
@@ -128,7 +130,8 @@ pub struct WindowMemory<K, V> {
 impl<K: SubKey, V: Value> WindowMemory<K, V> {
     // Empty windows in this memory.
     pub fn open(&mut self) -> WindowStore<'_, K, V>
-        ensures { WindowsOk K.cmp result }
+        ensures ok { WindowsOk K.cmp result }
+        ensures meaning { windows_meaning result ≡ opened_windows (vec_len self.old.keys) (vec_len self.old.values) (vec_len self.old.lengths) self.old.window }
     {
         let WindowMemory {
             keys,
@@ -141,6 +144,8 @@ impl<K: SubKey, V: Value> WindowMemory<K, V> {
 }
 
 // The slots of a book's reads.
-pub fn slots<V: Value>(heap: Global) -> Result<Vec<V>, AllocError> {
+pub fn slots<V: Value>(heap: Global) -> Result<Vec<V>, AllocError>
+    ensures { IfOk result (λ v. vec_len v ≡ 65536) }
+{
     vec![in heap; V::default(); SLOTS]
 }

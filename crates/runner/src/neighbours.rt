@@ -55,13 +55,10 @@ impl<T: OrderedTranslator> Neighbours<T> for Ordered {
         book: &Book<S, T>,
     ) -> Result<Vec<Place<T::Key>>, Fault> {
         let mut places = Vec::new(heap);
-        let mut at = book.first()?;
-        for _ in 0..book.counts()?.items {
-            let Some(place) = at else {
-                break;
-            };
+        let mut next = book.first()?;
+        while let Some(place) = next {
             places.push(place)?;
-            at = book.next_after(&place)?;
+            next = book.next_after(&place)?;
         }
         Ok(places)
     }

@@ -55,7 +55,7 @@ impl<'a, K: SubKey, T: Named<Key = K>> Plan<'a, T> {
             self.translator,
         );
         session.report.opened()?;
-        Ok(session.serve(&mut Desk::new(book, &mut slots))?)
+        Ok(Desk::new(book, &mut slots).serve(session)?)
     }
 
     // By the store; the pocket is for number keys and positions, and is no choice here.
