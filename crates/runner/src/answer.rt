@@ -56,7 +56,7 @@ impl Report {
     }
 
     // Answers a line that has no answer of its own; what was not written is no answer.
-    pub fn fault(&mut self, number: u64, why: Fault) -> Result<(), fmt::Error>
+    pub(crate) fn fault(&mut self, number: u64, why: Fault) -> Result<(), fmt::Error>
         ensures { self.new.wrong ≡ marked self.old.wrong why }
     {
         match why {

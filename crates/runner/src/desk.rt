@@ -21,21 +21,22 @@ use words::{Reason, SubkeyWord, ValueWord};
 
 // A book with its slots, of which the first `lent` are handed to its reads.
 #[derive(Drop)]
-pub struct Desk<'a, S, T, V> {
+pub struct Desk<'a, S: Store, T> {
     book: Book<S, T>,
-    slots: &'a mut [V],
+    slots: &'a mut [S::Value],
     lent: usize,
     ghost within: { lent ≤ length slots.now },
 }
 
-impl<'a, K: SubKey, V: Value, S: Store<Key = K, Value = V> + Spills, T: Named<Key = K>> Desk<
-    'a,
-    S,
-    T,
-    V,
-> {
+impl<'a, K, V, S, T> Desk<'a, S, T>
+where
+    K: SubKey,
+    V: Value,
+    S: Store<Key = K, Value = V> + Spills,
+    T: Named<Key = K>,
+{
     // All slots are lent.
-    pub fn new(book: Book<S, T>, slots: &'a mut [V]) -> Desk<'a, S, T, V>
+    pub fn new(book: Book<S, T>, slots: &'a mut [V]) -> Desk<'a, S, T>
         ensures book { result.book ≡ book }
         ensures lent { result.lent ≡ length slots.old }
     {
@@ -101,10 +102,7 @@ impl<'a, K: SubKey, V: Value, S: Store<Key = K, Value = V> + Spills, T: Named<Ke
             Call::First => self.end_run(End::First),
             Call::Last => self.end_run(End::Last),
             Call::Walk => Ok(Answer::Walked(T::Order::walk(heap, &self.book)?)),
-            Call::Counts => {
-                let counts = self.book.counts()?;
-                Ok(Answer::Counted(counts, self.book.store().spilled()))
-            }
+            Call::Counts => Ok(Answer::Counted(self.book.counts()?, self.book.store().spilled())),
         }
     }
 
