@@ -10,8 +10,7 @@ mod tests {
     use keys::Place;
     use pile::Pile;
     use side::SideTable;
-    use std::test::Fail;
-    use store::Store;
+    use store::{Refusal, Store};
     use windows::{Pocket, WindowStore};
 
     const NOWHERE: Place<u32> = Place {
@@ -75,7 +74,7 @@ mod tests {
 
     // Window size 2 and a side of 3 cells: two puts each in partitions 1 and 2, then one in 2.
     #[test]
-    fn refused_until_emptied(rt: HostRuntime) -> Result<(), Fail> {
+    fn refused_until_emptied(rt: HostRuntime) {
         let mut keys = [0u32; 512];
         let mut cells = [0u64; 512];
         let mut lengths = [0u64; 256];
@@ -99,16 +98,12 @@ mod tests {
         assert!(rt; store.put(&two, 0, 3).is_ok());
         assert!(rt; store.put(&two, 1, 4).is_ok());
         assert!(rt; store.spills() == 1);
-        match store.put(&two, 2, 5) {
-            Ok(()) => return Err(Fail::new("a refusal was expected")),
-            Err(why) => assert!(rt; why.code() == 6),
-        }
+        assert!(rt; store.put(&two, 2, 5).err().map(Refusal::code) == Some(6));
         assert!(rt; values(&store, &two) == (Some(3), Some(4), None));
         store.remove_run(&one);
         assert!(rt; store.put(&two, 2, 5).is_ok());
         assert!(rt; store.spills() == 2);
         assert!(rt; values(&store, &two) == (Some(3), Some(4), Some(5)));
-        Ok(())
     }
 
     // Numbers that do not fit make a void store, and leave the memory as it was.

@@ -1,5 +1,4 @@
 // A user of the interface, for any store of number keys and positions with room for four values in partition 5.
-ghost use Rattle.std.specs.Prelude.{◌≡◌};
 
 use keys::Place;
 use std::process::Abort;
@@ -23,30 +22,16 @@ pub fn values<S: Store<Key = u32, Value = u64>>(
     )
 }
 
-fn key_of(place: Option<Place<u32>>) -> Option<u32> {
-    match place {
-        Some(place) => Some(place.key),
-        None => None,
-    }
-}
-
-fn code_of<X: Drop>(answer: Result<X, Refusal>) -> u64 {
-    match answer {
-        Ok(_) => 0,
-        Err(why) => why.code(),
-    }
-}
-
 // Puts at both ends and in the middle of runs, and reads them.
 fn put_and_read<S: Store<Key = u32, Value = u64>>(rt: &impl Abort, store: &mut S)
     requires { S.Store.ok store.old }
     ensures { S.Store.ok store.new }
 {
     assert!(rt; store.is_empty());
-    assert!(rt; code_of(store.put(&at(30), 0, 2)) == 0);
-    assert!(rt; code_of(store.put(&at(30), 0, 1)) == 0);
-    assert!(rt; code_of(store.put(&at(10), 0, 9)) == 0);
-    assert!(rt; code_of(store.put(&at(30), 3, 4)) == 9);
+    assert!(rt; store.put(&at(30), 0, 2).is_ok());
+    assert!(rt; store.put(&at(30), 0, 1).is_ok());
+    assert!(rt; store.put(&at(10), 0, 9).is_ok());
+    assert!(rt; store.put(&at(30), 3, 4).err().map(Refusal::code) == Some(9));
     assert!(rt; values(store, &at(30)) == (Some(1), Some(2), None));
     assert!(rt; store.run_len(&at(10)) == 1 && store.run_len(&at(20)) == 0);
     assert!(rt; !store.is_empty());
@@ -56,13 +41,13 @@ fn put_and_read<S: Store<Key = u32, Value = u64>>(rt: &impl Abort, store: &mut S
 fn neighbours<S: Store<Key = u32, Value = u64>>(rt: &impl Abort, store: &S)
     requires { S.Store.ok store.now }
 {
-    assert_eq!(rt; key_of(store.first_in(5)), Some(10));
-    assert_eq!(rt; key_of(store.last_in(5)), Some(30));
-    assert_eq!(rt; key_of(store.next_in(&at(10))), Some(30));
-    assert_eq!(rt; key_of(store.next_in(&at(30))), None);
-    assert_eq!(rt; key_of(store.previous_in(&at(30))), Some(10));
-    assert_eq!(rt; key_of(store.previous_in(&at(10))), None);
-    assert_eq!(rt; key_of(store.first_in(4)), None);
+    assert!(rt; store.first_in(5) == Some(at(10)));
+    assert!(rt; store.last_in(5) == Some(at(30)));
+    assert!(rt; store.next_in(&at(10)) == Some(at(30)));
+    assert!(rt; store.next_in(&at(30)).is_none());
+    assert!(rt; store.previous_in(&at(30)) == Some(at(10)));
+    assert!(rt; store.previous_in(&at(10)).is_none());
+    assert!(rt; store.first_in(4).is_none());
 }
 
 // Sets, takes and removes what was put.
@@ -70,9 +55,9 @@ fn change_and_remove<S: Store<Key = u32, Value = u64>>(rt: &impl Abort, store: &
     requires { S.Store.ok store.old }
     ensures { S.Store.ok store.new }
 {
-    assert!(rt; code_of(store.set(&at(30), 1, 7)) == 0);
-    assert!(rt; code_of(store.set(&at(30), 2, 7)) == 9);
-    assert!(rt; code_of(store.take(&at(20), 0)) == 9);
+    assert!(rt; store.set(&at(30), 1, 7).is_ok());
+    assert!(rt; store.set(&at(30), 2, 7).err().map(Refusal::code) == Some(9));
+    assert!(rt; store.take(&at(20), 0).err().map(Refusal::code) == Some(9));
     assert_eq!(rt; store.take(&at(30), 0).ok(), Some(1));
     assert!(rt; values(store, &at(30)) == (Some(7), None, None));
     store.remove_run(&at(30));
@@ -90,14 +75,9 @@ pub fn use_store<S: Store<Key = u32, Value = u64>>(rt: &impl Abort, store: &mut 
     put_and_read(rt, store);
     neighbours(rt, store);
     change_and_remove(rt, store);
-    assert!(rt;
-        code_of(store.put(
-            &Place {
-                partition: 256,
-                key: 0,
-            },
-            0,
-            1,
-        )) == 6
-    );
+    let outside = Place {
+        partition: 256,
+        key: 0,
+    };
+    assert!(rt; store.put(&outside, 0, 1).err().map(Refusal::code) == Some(6));
 }
