@@ -1,6 +1,6 @@
 // What a line is answered, and the text of all answers.
 ghost use Rattle.std.specs.Prelude.{◌≡◌, true, false};
-ghost use Rattle.runner.specs.Marks.{marked};
+ghost use Rattle.runner.specs.Marks.{marked, told};
 
 use crate::fault::Fault;
 use crate::subkey::SubKey;
@@ -12,7 +12,7 @@ use std::fmt;
 use std::fmt::Write;
 use words::Reason;
 
-// The answer to one line; a run is so many of the slots.
+// The answer of a book to one line; a run is so many of the slots.
 #[derive(Drop)]
 pub enum Answer<K> {
     Done,
@@ -21,6 +21,55 @@ pub enum Answer<K> {
     Found(Place<K>, usize),
     Walked(Vec<Place<K>>),
     Counted(Counts, Option<u64>),
+}
+
+impl<K: SubKey> Answer<K> {
+    // Writes the answer, whose run is in the slots.
+    fn write<V: Value>(&self, slots: &[V], text: &mut String) -> Result<(), fmt::Error> {
+        match self {
+            Answer::Done => text.write_str("ok\n"),
+            Answer::Nothing => text.write_str("none\n"),
+            Answer::Run(len) => write_run(*len, slots, text),
+            Answer::Found(place, len) => {
+                write!(text, "place {} {} ", place.partition, place.key)?;
+                write_run(*len, slots, text)
+            }
+            Answer::Walked(places) => write_walk(places, text),
+            Answer::Counted(counts, spills) => write_counts(counts, *spills, text),
+        }
+    }
+}
+
+// The values of a run, which are the first `len` of the slots.
+fn write_run<V: Value>(len: usize, slots: &[V], text: &mut String) -> Result<(), fmt::Error> {
+    text.write_str("run")?;
+    for value in slots.iter().take(len) {
+        write!(text, " {value}")?;
+    }
+    text.write_str("\n")
+}
+
+// The places of a walk.
+fn write_walk<K: SubKey>(places: &[Place<K>], text: &mut String) -> Result<(), fmt::Error> {
+    text.write_str("walk")?;
+    for place in places {
+        write!(text, " {}:{}", place.partition, place.key)?;
+    }
+    text.write_str("\n")
+}
+
+// The counts of a book, and the spills of a pile.
+fn write_counts(counts: &Counts, spills: Option<u64>, text: &mut String) -> Result<(), fmt::Error> {
+    let Counts {
+        keys,
+        items,
+        pruned,
+    } = counts;
+    write!(text, "keys {keys} items {items} pruned {pruned}")?;
+    if let Some(n) = spills {
+        write!(text, " spills {n}")?;
+    }
+    text.write_str("\n")
 }
 
 // All answers, one line each, and whether a line was wrong.
@@ -42,7 +91,9 @@ impl Report {
     }
 
     // Answers a book that was opened.
-    pub fn opened(&mut self) -> Result<(), fmt::Error> {
+    pub fn opened(&mut self) -> Result<(), fmt::Error>
+        ensures { self.new.wrong ≡ self.old.wrong }
+    {
         self.text.write_str("opened\n")
     }
 
@@ -55,7 +106,7 @@ impl Report {
         Ok(())
     }
 
-    // Answers a line that has no answer of its own; what was not written is no answer.
+    // Answers a line that has no answer of its own; where an answer found no memory, there is none.
     pub(crate) fn fault(&mut self, number: u64, why: Fault) -> Result<(), fmt::Error>
         ensures { self.new.wrong ≡ marked self.old.wrong why }
     {
@@ -73,61 +124,12 @@ impl Report {
         number: u64,
         answer: Result<Answer<K>, Fault>,
         slots: &[V],
-    ) -> Result<(), fmt::Error> {
+    ) -> Result<(), fmt::Error>
+        ensures { self.new.wrong ≡ told self.old.wrong answer }
+    {
         match answer {
-            Ok(answer) => self.answer(&answer, slots),
+            Ok(answer) => answer.write(slots, &mut self.text),
             Err(why) => self.fault(number, why),
         }
-    }
-
-    // Writes an answer of the book's.
-    fn answer<K: SubKey, V: Value>(
-        &mut self,
-        answer: &Answer<K>,
-        slots: &[V],
-    ) -> Result<(), fmt::Error> {
-        match answer {
-            Answer::Done => self.text.write_str("ok\n"),
-            Answer::Nothing => self.text.write_str("none\n"),
-            Answer::Run(len) => self.run(*len, slots),
-            Answer::Found(place, len) => {
-                write!(self.text, "place {} {} ", place.partition, place.key)?;
-                self.run(*len, slots)
-            }
-            Answer::Walked(places) => self.walk(places),
-            Answer::Counted(counts, spills) => self.counts(counts, *spills),
-        }
-    }
-
-    // The values of a run, which are the first `len` of the slots.
-    fn run<V: Value>(&mut self, len: usize, slots: &[V]) -> Result<(), fmt::Error> {
-        self.text.write_str("run")?;
-        for value in slots.iter().take(len) {
-            write!(self.text, " {value}")?;
-        }
-        self.text.write_str("\n")
-    }
-
-    // The places of a walk.
-    fn walk<K: SubKey>(&mut self, places: &[Place<K>]) -> Result<(), fmt::Error> {
-        self.text.write_str("walk")?;
-        for place in places {
-            write!(self.text, " {}:{}", place.partition, place.key)?;
-        }
-        self.text.write_str("\n")
-    }
-
-    // The counts of a book, and the spills of a pile.
-    fn counts(&mut self, counts: &Counts, spills: Option<u64>) -> Result<(), fmt::Error> {
-        let Counts {
-            keys,
-            items,
-            pruned,
-        } = counts;
-        write!(self.text, "keys {keys} items {items} pruned {pruned}")?;
-        if let Some(n) = spills {
-            write!(self.text, " spills {n}")?;
-        }
-        self.text.write_str("\n")
     }
 }

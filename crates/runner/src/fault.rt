@@ -4,7 +4,7 @@ use std::fmt;
 use store::Refusal;
 use words::Reason;
 
-// The book refused it, the line is wrong, or the answer could not be written.
+// The book refused it, the line is wrong, or an answer found no memory.
 #[derive(Drop)]
 pub enum Fault {
     Refused(Refusal),

@@ -34,11 +34,6 @@ pub struct Sizes {
     side_cells: usize,
 }
 
-// What a book over a side-table of `cells` is given: one cell more than it uses stands for every larger number, since the table is void then.
-fn side_cells(cells: u64) -> usize {
-    cells.min(SIDE + 1) as usize
-}
-
 impl Sizes {
     // The sizes that an opening asks for; none where they are more than a book is given. Windows that are void are given nothing.
     pub fn of(opening: &Opening) -> Option<Sizes> {
@@ -46,9 +41,8 @@ impl Sizes {
         let (window, side) = match opening.store {
             StoreName::Pocket => (0, 0),
             StoreName::Windows { window } => (window, 0),
-            StoreName::Side { cells } => (0, cells),
+            StoreName::Side { cells } | StoreName::PocketPile { cells } => (0, cells),
             StoreName::Pile { window, cells } => (window, cells),
-            StoreName::PocketPile { cells } => (0, cells),
         };
         let (lengths, window_cells) = if (1..=WINDOW).contains(&window) {
             (partitions, partitions.checked_mul(window)?)
@@ -63,12 +57,17 @@ impl Sizes {
             window,
             window_cells: window_cells as usize,
             lengths: lengths as usize,
-            side_cells: side_cells(side),
+            // One cell more than a side-table uses stands for every larger number, since the table is void then.
+            side_cells: side.min(SIDE + 1) as usize,
         })
     }
 
     // The memory of the side-table.
-    pub fn side<K: SubKey, V: Value>(self, heap: Global) -> Result<SideMemory<K, V>, AllocError> {
+    pub fn side<K: SubKey, V: Value>(self, heap: Global) -> Result<SideMemory<K, V>, AllocError>
+        ensures keys { IfOk result (λ m. vec_len m.keys ≡ self.side_cells) }
+        ensures values { IfOk result (λ m. vec_len m.values ≡ self.side_cells) }
+        ensures partitions { IfOk result (λ m. m.partitions ≡ self.partitions) }
+    {
         Ok(SideMemory {
             keys: vec![in heap; Place::default(); self.side_cells]?,
             values: vec![in heap; V::default(); self.side_cells]?,
@@ -80,7 +79,12 @@ impl Sizes {
     pub fn windows<K: SubKey, V: Value>(
         self,
         heap: Global,
-    ) -> Result<WindowMemory<K, V>, AllocError> {
+    ) -> Result<WindowMemory<K, V>, AllocError>
+        ensures keys { IfOk result (λ m. vec_len m.keys ≡ self.window_cells) }
+        ensures values { IfOk result (λ m. vec_len m.values ≡ self.window_cells) }
+        ensures lengths { IfOk result (λ m. vec_len m.lengths ≡ self.lengths) }
+        ensures window { IfOk result (λ m. m.window ≡ self.window) }
+    {
         Ok(WindowMemory {
             keys: vec![in heap; K::default(); self.window_cells]?,
             values: vec![in heap; V::default(); self.window_cells]?,

@@ -142,14 +142,11 @@ pub fn cannot_open(heap: Global, opening: &Opening) -> Option<Reason> {
     if names_pocket(opening) && (label || !in_pocket(opening)) {
         return Some(Reason::OtherStore);
     }
-    let Some(sizes) = Sizes::of(opening) else {
-        return Some(Reason::NoMemory);
-    };
-    let fit = match (label, opening.values) {
+    let fit = Sizes::of(opening).is_some_and(|sizes| match (label, opening.values) {
         (true, ValuesName::Position) => sizes.fit::<Label, u64>(heap),
         (true, ValuesName::Weighing) => sizes.fit::<Label, Weighing>(heap),
         (false, ValuesName::Position) => sizes.fit::<u32, u64>(heap),
         (false, ValuesName::Weighing) => sizes.fit::<u32, Weighing>(heap),
-    };
+    });
     (!fit).then_some(Reason::NoMemory)
 }

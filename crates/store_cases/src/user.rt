@@ -1,5 +1,4 @@
 // A user of the interface, for any store of number keys and positions with room for four values in partition 5.
-
 use keys::Place;
 use std::process::Abort;
 use store::{Refusal, Store};
