@@ -1,6 +1,5 @@
 // Answers the lines of a script from one book.
 ghost use Rattle.std.specs.Prelude.{◌≡◌, ◌≤◌, length};
-ghost use Rattle.book.specs.State.{BookOk};
 
 use crate::answer::Answer;
 use crate::fault::Fault;
@@ -45,29 +44,20 @@ where
     }
 
     // Books a value under a key.
-    fn insert(&mut self, key: &[u8], word: ValueWord) -> Result<Answer<K>, Fault>
-        requires { BookOk S.Store.meaning S.Store.ok K.cmp self.old.book }
-        ensures { BookOk S.Store.meaning S.Store.ok K.cmp self.new.book }
-    {
+    fn insert(&mut self, key: &[u8], word: ValueWord) -> Result<Answer<K>, Fault> {
         let value = V::from_word(word).ok_or(Reason::OtherValues)?;
         self.book.insert(key, value)?;
         Ok(Answer::Done)
     }
 
     // The run of a key.
-    fn get(&mut self, key: &[u8]) -> Result<Answer<K>, Fault>
-        requires { BookOk S.Store.meaning S.Store.ok K.cmp self.old.book }
-        ensures { BookOk S.Store.meaning S.Store.ok K.cmp self.new.book }
-    {
+    fn get(&mut self, key: &[u8]) -> Result<Answer<K>, Fault> {
         let len = self.book.get(key, &mut self.slots[..self.lent])?;
         Ok(Answer::Run(len))
     }
 
     // The run at a place.
-    fn run_at(&mut self, partition: u64, word: &SubkeyWord) -> Result<Answer<K>, Fault>
-        requires { BookOk S.Store.meaning S.Store.ok K.cmp self.old.book }
-        ensures { BookOk S.Store.meaning S.Store.ok K.cmp self.new.book }
-    {
+    fn run_at(&mut self, partition: u64, word: &SubkeyWord) -> Result<Answer<K>, Fault> {
         let key = K::from_word(word).ok_or(Reason::OtherKeys)?;
         let place = Place { partition, key };
         let len = self.book.run(&place, &mut self.slots[..self.lent])?;
@@ -75,10 +65,7 @@ where
     }
 
     // The place at an end of the book, with its run, for which all slots are lent.
-    fn end_run(&mut self, end: End) -> Result<Answer<K>, Fault>
-        requires { BookOk S.Store.meaning S.Store.ok K.cmp self.old.book }
-        ensures { BookOk S.Store.meaning S.Store.ok K.cmp self.new.book }
-    {
+    fn end_run(&mut self, end: End) -> Result<Answer<K>, Fault> {
         let Some(place) = T::Order::at_end(&self.book, end)? else {
             return Ok(Answer::Nothing);
         };
@@ -87,10 +74,7 @@ where
     }
 
     // The answer to one call.
-    fn answer(&mut self, heap: Global, call: &Call) -> Result<Answer<K>, Fault>
-        requires { BookOk S.Store.meaning S.Store.ok K.cmp self.old.book }
-        ensures { BookOk S.Store.meaning S.Store.ok K.cmp self.new.book }
-    {
+    fn answer(&mut self, heap: Global, call: &Call) -> Result<Answer<K>, Fault> {
         match call {
             Call::Slots(n) => {
                 self.lent = self.slots.len().min(*n);
@@ -108,7 +92,6 @@ where
 
     // Answers the lines that are left, up to the line that opens the next book or to the end.
     pub fn serve(&mut self, session: &mut Session<'_>) -> Result<(), fmt::Error>
-        requires { BookOk S.Store.meaning S.Store.ok K.cmp self.old.book }
         ensures { length session.new.lines.now ≤ length session.old.lines.now }
     {
         while let [line, rest @ ..] = session.lines {

@@ -1,8 +1,9 @@
 // The memory that the books of a script are given.
 ghost use Rattle.std.specs.Prelude.{◌≡◌, IfOk, vec_len};
-ghost use Rattle.side.specs.Table.{TableOk, table_meaning, opened as opened_side};
-ghost use Rattle.windows.specs.Windows.{opened as opened_windows};
-ghost use Rattle.windows.specs.Stores.{WindowsOk, windows_meaning};
+ghost use Rattle.side.specs.Table.{opened as opened_side};
+ghost use Rattle.side.specs.Tables.{table_meaning};
+ghost use Rattle.layout.specs.Windows.{opened as opened_windows};
+ghost use Rattle.windows.specs.Stores.{windows_meaning};
 
 use crate::subkey::SubKey;
 use crate::value::Value;
@@ -110,8 +111,7 @@ pub struct SideMemory<K, V> {
 impl<K: SubKey, V: Value> SideMemory<K, V> {
     // An empty side-table in this memory.
     pub fn open(&mut self) -> SideTable<'_, K, V>
-        ensures ok { TableOk K.cmp result }
-        ensures meaning { table_meaning result ≡ opened_side (vec_len self.old.keys) (vec_len self.old.values) self.old.partitions }
+        ensures { table_meaning result ≡ opened_side (vec_len self.old.keys) (vec_len self.old.values) self.old.partitions }
     {
         let SideMemory {
             keys,
@@ -134,8 +134,7 @@ pub struct WindowMemory<K, V> {
 impl<K: SubKey, V: Value> WindowMemory<K, V> {
     // Empty windows in this memory.
     pub fn open(&mut self) -> WindowStore<'_, K, V>
-        ensures ok { WindowsOk K.cmp result }
-        ensures meaning { windows_meaning result ≡ opened_windows (vec_len self.old.keys) (vec_len self.old.values) (vec_len self.old.lengths) self.old.window }
+        ensures { windows_meaning result ≡ opened_windows (vec_len self.old.keys) (vec_len self.old.values) (vec_len self.old.lengths) self.old.window }
     {
         let WindowMemory {
             keys,

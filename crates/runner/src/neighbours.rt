@@ -1,5 +1,4 @@
 // How the ends and the walk of a book are asked for: only a book whose translator keeps order has them.
-ghost use Rattle.book.specs.State.{BookOk};
 
 use crate::fault::Fault;
 use book::Book;
@@ -22,15 +21,13 @@ pub trait Neighbours<T: Translator> {
     fn at_end<S: Store<Key = T::Key>>(
         book: &Book<S, T>,
         end: End,
-    ) -> Result<Option<Place<T::Key>>, Fault>
-        requires { BookOk S.Store.meaning S.Store.ok T.Key.cmp book.now };
+    ) -> Result<Option<Place<T::Key>>, Fault>;
 
     // Every place, from the first on.
     fn walk<S: Store<Key = T::Key>>(
         heap: Global,
         book: &Book<S, T>,
-    ) -> Result<Vec<Place<T::Key>>, Fault>
-        requires { BookOk S.Store.meaning S.Store.ok T.Key.cmp book.now };
+    ) -> Result<Vec<Place<T::Key>>, Fault>;
 }
 
 // For translators that keep order.

@@ -44,7 +44,6 @@ impl<'a, K: SubKey, T: Named<Key = K>> Plan<'a, T> {
         store: S,
         session: &mut Session<'_>,
     ) -> Result<(), Fault>
-        requires { S.Store.ok store }
         ensures { length session.new.lines.now ≤ length session.old.lines.now }
     {
         let mut slots = slots::<V>(session.heap)?;

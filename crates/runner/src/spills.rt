@@ -1,4 +1,5 @@
 // How often a store has moved a partition to its side.
+use keys::Key;
 use pile::Pile;
 use side::SideTable;
 use store::{Store, Windowed};
@@ -11,9 +12,9 @@ pub trait Spills {
     }
 }
 
-impl<'a, K, V> Spills for SideTable<'a, K, V> {}
+impl<'a, K: Key, V> Spills for SideTable<'a, K, V> {}
 
-impl<'a, K, V> Spills for WindowStore<'a, K, V> {}
+impl<'a, K: Key, V> Spills for WindowStore<'a, K, V> {}
 
 impl Spills for Pocket {}
 

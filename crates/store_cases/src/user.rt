@@ -11,9 +11,7 @@ fn at(key: u32) -> Place<u32> {
 pub fn values<S: Store<Key = u32, Value = u64>>(
     store: &S,
     place: &Place<u32>,
-) -> (Option<u64>, Option<u64>, Option<u64>)
-    requires { S.Store.ok store.now }
-{
+) -> (Option<u64>, Option<u64>, Option<u64>) {
     (
         store.value_at(place, 0),
         store.value_at(place, 1),
@@ -22,10 +20,7 @@ pub fn values<S: Store<Key = u32, Value = u64>>(
 }
 
 // Puts at both ends and in the middle of runs, and reads them.
-fn put_and_read<S: Store<Key = u32, Value = u64>>(rt: &impl Abort, store: &mut S)
-    requires { S.Store.ok store.old }
-    ensures { S.Store.ok store.new }
-{
+fn put_and_read<S: Store<Key = u32, Value = u64>>(rt: &impl Abort, store: &mut S) {
     assert!(rt; store.is_empty());
     assert!(rt; store.put(&at(30), 0, 2).is_ok());
     assert!(rt; store.put(&at(30), 0, 1).is_ok());
@@ -37,9 +32,7 @@ fn put_and_read<S: Store<Key = u32, Value = u64>>(rt: &impl Abort, store: &mut S
 }
 
 // The places of the partition.
-fn neighbours<S: Store<Key = u32, Value = u64>>(rt: &impl Abort, store: &S)
-    requires { S.Store.ok store.now }
-{
+fn neighbours<S: Store<Key = u32, Value = u64>>(rt: &impl Abort, store: &S) {
     assert!(rt; store.first_in(5) == Some(at(10)));
     assert!(rt; store.last_in(5) == Some(at(30)));
     assert!(rt; store.next_in(&at(10)) == Some(at(30)));
@@ -50,10 +43,7 @@ fn neighbours<S: Store<Key = u32, Value = u64>>(rt: &impl Abort, store: &S)
 }
 
 // Sets, takes and removes what was put.
-fn change_and_remove<S: Store<Key = u32, Value = u64>>(rt: &impl Abort, store: &mut S)
-    requires { S.Store.ok store.old }
-    ensures { S.Store.ok store.new }
-{
+fn change_and_remove<S: Store<Key = u32, Value = u64>>(rt: &impl Abort, store: &mut S) {
     assert!(rt; store.set(&at(30), 1, 7).is_ok());
     assert!(rt; store.set(&at(30), 2, 7).err().map(Refusal::code) == Some(9));
     assert!(rt; store.take(&at(20), 0).err().map(Refusal::code) == Some(9));
@@ -67,10 +57,7 @@ fn change_and_remove<S: Store<Key = u32, Value = u64>>(rt: &impl Abort, store: &
 }
 
 // All of it.
-pub fn use_store<S: Store<Key = u32, Value = u64>>(rt: &impl Abort, store: &mut S)
-    requires { S.Store.ok store.old }
-    ensures { S.Store.ok store.new }
-{
+pub fn use_store<S: Store<Key = u32, Value = u64>>(rt: &impl Abort, store: &mut S) {
     put_and_read(rt, store);
     neighbours(rt, store);
     change_and_remove(rt, store);

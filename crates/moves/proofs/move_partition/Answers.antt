@@ -8,7 +8,7 @@ use Rattle.moves.proofs.move_partition.Goals as goal
 pub loop-place-init : goal.loop-place-init
 loop-place-init g c =
     let cmp = g.W.Key.Ord.cmp in
-    let o = total (places_lawful cmp g.met.W.Key.Key.lawful) in 
+    let o = total (places_lawful cmp g.met.W.Key.Key.lawful) in
     moving_none cmp o (g.W.Store.meaning c.args.windows.now) (g.S.Store.meaning c.args.side.now) c.args.partition c.requires.apart
 
 -- what one turn does
