@@ -5,7 +5,7 @@ use store::Refusal;
 use words::Reason;
 
 // The book refused it, the line is wrong, or an answer found no memory.
-#[derive(Drop)]
+#[derive(Clone, Copy)]
 pub enum Fault {
     Refused(Refusal),
     Wrong(Reason),

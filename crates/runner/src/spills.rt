@@ -12,9 +12,9 @@ pub trait Spills {
     }
 }
 
-impl<'a, K: Key, V> Spills for SideTable<'a, K, V> {}
+impl<K: Key, V> Spills for SideTable<'_, K, V> {}
 
-impl<'a, K: Key, V> Spills for WindowStore<'a, K, V> {}
+impl<K: Key, V> Spills for WindowStore<'_, K, V> {}
 
 impl Spills for Pocket {}
 
