@@ -19,10 +19,7 @@ pub fn remove_run<T: Copy>(cells: &mut [T], len: usize, start: usize, end: usize
     requires room { len ≤ length cells.old }
     ensures { cells.new ≡ cut cells.old len start end }
 {
-    let gap = end - start;
-    for i in end..len {
-        cells[i - gap] = cells[i];
-    }
+    cells.copy_within(end..len, start);
 }
 
 // Takes the cell at `idx` out.

@@ -12,14 +12,14 @@ use keys::Key;
 
 // Keys in rising order with a value beside each.
 #[derive(Drop)]
-pub struct Runs<'a, K: Key, V> {
-    keys: Keys<'a, K>,
+pub struct Runs<'k, 'a, K: Key, V> {
+    keys: Keys<'k, K>,
     values: &'a [V],
     ghost alongside: { length keys.keys.now ≡ length values.now },
 }
 
-impl<'a, K: Key, V> Runs<'a, K, V> {
-    pub fn new(keys: &'a [K], values: &'a [V]) -> Runs<'a, K, V>
+impl<'k, 'a, K: Key, V> Runs<'k, 'a, K, V> {
+    pub fn new(keys: &'k [K], values: &'a [V]) -> Runs<'k, 'a, K, V>
         requires sorted { Sorted (before K.cmp) keys.now }
         requires alongside { length keys.now ≡ length values.now }
         ensures keys { result.keys.keys.now ≡ keys.now }

@@ -37,8 +37,7 @@ AnswersBy by s a (Err e) = (e ≡ Unsound) × (s.prefix ≡ 0)
 
 -- a book that was opened unsoundly refuses; any other answers a
 abbrev pub Answers : {T K V A : Type 0} → State T K V → A → Result A Refusal → Type 0
-Answers s a (Ok r) = (0 < s.prefix) × (r ≡ a)
-Answers s a (Err e) = (e ≡ Unsound) × (s.prefix ≡ 0)
+Answers = AnswersBy (λ r. r)
 
 module _ {T K V : Type 0} (cmp : K → K → Ordering) (s : State T K V) where
   abbrev pub counts : Counts

@@ -132,10 +132,6 @@ module _ {K V : Type 0} (m n : Meaning K V) (q : ℕ) where
       ∙ ap (λ x. a && cond b x (eqb (m.space q) 0)) g
       ∙ ap (λ x. a && cond b c x) h
 
-  -- not where it is in the side
-  pub no_spill_side : 0 < values_in n q → spilled m n q ≡ false
-  no_spill_side h = spilled-at false (eqb (m.space q) 1) (leb m.assured (n.space q)) (eqb (m.space q) 0) (ne_eqb (values_in n q) 0 (λ e. omega arith)) refl refl refl
-
   -- not where the window has more space
   pub no_spill_more : 1 < m.space q → spilled m n q ≡ false
   no_spill_more h = spilled-at (eqb (values_in n q) 0) false (leb m.assured (n.space q)) false refl (ne_eqb (m.space q) 1 (λ e. omega arith)) refl (ne_eqb (m.space q) 0 (λ e. omega arith)) ∙ and_none (eqb (values_in n q) 0)
@@ -163,7 +159,3 @@ module _ {K V : Type 0} (m n : Meaning K V) (q : ℕ) where
     moved = λ t. absurd (both_ways (spilled m n q) f t);
     stays = λ s z. h z;
   }
-
-  -- nothing where it is in the side
-  pub counted-side : (n1 : Meaning K V) (a : ℕ) → 0 < values_in n q → Counted m n n1 q a a
-  counted-side n1 a h = counted-stays n1 a (no_spill_side h) (λ z. absurd (omega arith))

@@ -30,16 +30,6 @@ decide {P} {lt} o x y =
     ⊎_elim (λ t. inl (same-is o x y t)) (λ f. inr (λ z. both_ways (same lt x y) f (ap (same lt x) (sym z) ∙ same_self o x))) (cases_Bool (same lt x y))
 
 module _ {K V : Type 0} (cmp : K → K → Ordering) where
-  pub appended_none : (m : Meaning K V) (p : Place K) → Appended cmp m m p []
-  appended_none m p = record {
-    here = sym (append-nil (run_at cmp m p));
-    there = λ x d. refl;
-    falls = omega arith;
-    values = omega arith;
-    same_partitions = refl;
-    same_assured = refl;
-  }
-
   module _ (o : Total (before (place_order cmp))) where
     -- what a value put in adds to its partition
     pub gains-values : (m n : Meaning K V) (p : Place K) (i : ℕ) (v : V) → Sound cmp m → Sound cmp n → Gains (before (place_order cmp)) m.contents n.contents p i v → values_in n p.partition ≡ values_in m p.partition + 1

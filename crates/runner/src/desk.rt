@@ -1,5 +1,6 @@
 // Answers the lines of a script from one book.
 ghost use Rattle.std.specs.Prelude.{◌≡◌, ◌≤◌, length};
+ghost use Rattle.runner.specs.Lines.{Behind};
 
 use crate::answer::Answer;
 use crate::fault::Fault;
@@ -92,7 +93,7 @@ where
 
     // Answers the lines that are left, up to the line that opens the next book or to the end.
     pub fn serve(&mut self, session: &mut Session<'_>) -> Result<(), fmt::Error>
-        ensures { length session.new.lines.now ≤ length session.old.lines.now }
+        ensures { Behind session.old.lines.now session.new.lines.now }
     {
         while let [line, rest @ ..] = session.lines {
             let answer = match &line.command {

@@ -1,5 +1,5 @@
 // Opens the books of a script: each choice that an opening names is one match.
-ghost use Rattle.std.specs.Prelude.{◌≤◌, length};
+ghost use Rattle.runner.specs.Lines.{Behind};
 
 use crate::desk::Desk;
 use crate::fault::Fault;
@@ -44,7 +44,7 @@ impl<'a, K: SubKey, T: Named<Key = K>> Plan<'a, T> {
         store: S,
         session: &mut Session<'_>,
     ) -> Result<(), Fault>
-        ensures { length session.new.lines.now ≤ length session.old.lines.now }
+        ensures { Behind session.old.lines.now session.new.lines.now }
     {
         let mut slots = slots::<V>(session.heap)?;
         let book = Book::open(
@@ -59,7 +59,7 @@ impl<'a, K: SubKey, T: Named<Key = K>> Plan<'a, T> {
 
     // By the store; the pocket is for number keys and positions, and is no choice here.
     fn by_store<V: Value>(self, session: &mut Session<'_>) -> Result<(), Fault>
-        ensures { length session.new.lines.now ≤ length session.old.lines.now }
+        ensures { Behind session.old.lines.now session.new.lines.now }
     {
         match self.opening.store {
             StoreName::Side { .. } => {
@@ -83,7 +83,7 @@ impl<'a, K: SubKey, T: Named<Key = K>> Plan<'a, T> {
 
     // By the values that the book holds.
     fn by_values(self, session: &mut Session<'_>) -> Result<(), Fault>
-        ensures { length session.new.lines.now ≤ length session.old.lines.now }
+        ensures { Behind session.old.lines.now session.new.lines.now }
     {
         match self.opening.values {
             ValuesName::Position => self.by_store::<u64>(session),
@@ -95,7 +95,7 @@ impl<'a, K: SubKey, T: Named<Key = K>> Plan<'a, T> {
 impl<T: Named<Key = u32>> Plan<'_, T> {
     // Over the pocket, or a pile on it.
     fn over_pocket(self, session: &mut Session<'_>) -> Result<(), Fault>
-        ensures { length session.new.lines.now ≤ length session.old.lines.now }
+        ensures { Behind session.old.lines.now session.new.lines.now }
     {
         match self.opening.store {
             StoreName::PocketPile { .. } => {
@@ -123,7 +123,7 @@ fn in_pocket(opening: &Opening) -> bool {
 impl Session<'_> {
     // Opens the book that a line names, and answers the lines up to the next opening: by the translator, and whether the windows are in a pocket.
     pub fn open(&mut self, opening: &Opening) -> Result<(), Fault>
-        ensures { length self.new.lines.now ≤ length self.old.lines.now }
+        ensures { Behind self.old.lines.now self.new.lines.now }
     {
         match (opening.translator, in_pocket(opening)) {
             (TranslatorName::Cap, false) => Plan::new(opening, Cap)?.by_values(self),

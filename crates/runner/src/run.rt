@@ -1,5 +1,5 @@
 // Runs a whole script.
-ghost use Rattle.std.specs.Prelude.{◌≤◌, length};
+ghost use Rattle.runner.specs.Lines.{Behind};
 
 use crate::answer::Report;
 use crate::fault::Fault;
@@ -12,7 +12,7 @@ use words::Reason;
 impl Session<'_> {
     // Answers a line while no book is open; where it opens one, the lines of that book too.
     fn run_line(&mut self, line: &Line) -> Result<(), Fault>
-        ensures { length self.new.lines.now ≤ length self.old.lines.now }
+        ensures { Behind self.old.lines.now self.new.lines.now }
     {
         match &line.command {
             Ok(Command::Open(opening)) => self.open(opening),

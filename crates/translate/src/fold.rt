@@ -9,6 +9,11 @@ use crate::translator::Translator;
 use keys::Key;
 use std::cmp::Ordering;
 
+// What the hash starts from, and what it is multiplied by at each byte.
+const BASIS: u32 = 2166136261;
+
+const PRIME: u32 = 16777619;
+
 // The 32-bit FNV-1a hash.
 #[derive(Clone, Copy)]
 pub struct Fold;
@@ -20,11 +25,9 @@ impl Translator for Fold {
     ghost meaning = { λ _. fold_of };
 
     fn translate(&self, sub_key: &[u8]) -> u32 {
-        let mut hash: u32 = 2166136261;
-        for b in sub_key {
-            hash = (hash ^ u32::from(*b)).wrapping_mul(16777619);
-        }
-        hash
+        sub_key.iter().fold(BASIS, |hash, b| {
+            (hash ^ u32::from(*b)).wrapping_mul(PRIME)
+        })
     }
 }
 

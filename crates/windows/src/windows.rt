@@ -22,13 +22,12 @@ pub struct WindowStore<'a, K: Key, V> {
 fn fitting(keys: usize, values: usize, partitions: usize, window: u64) -> bool
     ensures { result ≡ fitting keys values partitions window }
 {
-    if window == 0 || window > WIDEST {
+    if !(1..=WIDEST).contains(&window) {
         return false;
     }
-    match partitions.checked_mul(window as usize) {
-        Some(cells) => keys == cells && values == cells,
-        None => false,
-    }
+    partitions
+        .checked_mul(window as usize)
+        .is_some_and(|cells| keys == cells && values == cells)
 }
 
 impl<'a, K: Key, V: Copy + Drop> WindowStore<'a, K, V> {

@@ -1,4 +1,4 @@
-use Rattle.std.proofs.Common.{length, take}
+use Rattle.std.proofs.Common.{take}
 use Rattle.store.specs.Meaning.{run_at}
 use Rattle.moves.specs.Moving.{Appended}
 use Rattle.moves.proofs.copy_run.Given as goal

@@ -1,4 +1,4 @@
-use Rattle.std.proofs.Common.{◌≡◌, true, false, length, get_or, replicate, sym, ap, ◌∙◌, rules, arith}
+use Rattle.std.proofs.Common.{◌≡◌, true, false, length, get_or, replicate, ap, ◌∙◌, rules, arith}
 use Rattle.std.proofs.lemmas.List.{get_or-replicate}
 use Rattle.layout.specs.Windows.{fitting}
 use Rattle.layout.proofs.Opens.{opens, opens_void}
