@@ -1,4 +1,5 @@
 // What a book counts.
+use std::fmt;
 
 // How many places and values are held, and how many values were struck.
 #[derive(Clone, Copy)]
@@ -6,4 +7,16 @@ pub struct Counts {
     pub keys: u64,
     pub items: u64,
     pub pruned: u64,
+}
+
+// Each count behind its name.
+impl fmt::Display for Counts {
+    fn fmt<W: fmt::Write>(&self, f: &mut fmt::Formatter<W>) -> fmt::Result {
+        let Counts {
+            keys,
+            items,
+            pruned,
+        } = self;
+        write!(f, "keys {keys} items {items} pruned {pruned}")
+    }
 }

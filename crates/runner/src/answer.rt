@@ -60,12 +60,7 @@ fn write_walk<K: SubKey>(places: &[Place<K>], text: &mut String) -> Result<(), f
 
 // The counts of a book, and the spills of a pile.
 fn write_counts(counts: &Counts, spills: Option<u64>, text: &mut String) -> Result<(), fmt::Error> {
-    let Counts {
-        keys,
-        items,
-        pruned,
-    } = counts;
-    write!(text, "keys {keys} items {items} pruned {pruned}")?;
+    write!(text, "{counts}")?;
     if let Some(n) = spills {
         write!(text, " spills {n}")?;
     }

@@ -4,7 +4,7 @@ ghost use Rattle.runner.specs.Lines.{Behind};
 
 use crate::answer::Answer;
 use crate::fault::Fault;
-use crate::neighbours::{End, Named, Neighbours};
+use crate::neighbours::{Named, Neighbours};
 use crate::open::cannot_open;
 use crate::session::Session;
 use crate::spills::Spills;
@@ -65,9 +65,9 @@ where
         Ok(Answer::Run(len))
     }
 
-    // The place at an end of the book, with its run, for which all slots are lent.
-    fn end_run(&mut self, end: End) -> Result<Answer<K>, Fault> {
-        let Some(place) = T::Order::at_end(&self.book, end)? else {
+    // A place at an end of the book, if it has one, with its run, for which all slots are lent.
+    fn found(&mut self, place: Option<Place<K>>) -> Result<Answer<K>, Fault> {
+        let Some(place) = place else {
             return Ok(Answer::Nothing);
         };
         let len = self.book.run(&place, self.slots)?;
@@ -84,8 +84,14 @@ where
             Call::Insert { key, value } => self.insert(key, *value),
             Call::Get { key } => self.get(key),
             Call::Run { partition, subkey } => self.run_at(*partition, subkey),
-            Call::First => self.end_run(End::First),
-            Call::Last => self.end_run(End::Last),
+            Call::First => {
+                let first = T::Order::first(&self.book)?;
+                self.found(first)
+            }
+            Call::Last => {
+                let last = T::Order::last(&self.book)?;
+                self.found(last)
+            }
             Call::Walk => Ok(Answer::Walked(T::Order::walk(heap, &self.book)?)),
             Call::Counts => Ok(Answer::Counted(self.book.counts()?, self.book.store().spilled())),
         }

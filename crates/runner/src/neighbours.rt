@@ -8,20 +8,13 @@ use store::Store;
 use translate::{Cap, Fold, Labels, OrderedTranslator, Translator};
 use words::Reason;
 
-// An end of a book.
-#[derive(Clone, Copy)]
-pub enum End {
-    First,
-    Last,
-}
-
 // What a book of the translator T can be asked of the order of its places.
 pub trait Neighbours<T: Translator> {
-    // The place at an end.
-    fn at_end<S: Store<Key = T::Key>>(
-        book: &Book<S, T>,
-        end: End,
-    ) -> Result<Option<Place<T::Key>>, Fault>;
+    // The least place.
+    fn first<S: Store<Key = T::Key>>(book: &Book<S, T>) -> Result<Option<Place<T::Key>>, Fault>;
+
+    // The greatest place.
+    fn last<S: Store<Key = T::Key>>(book: &Book<S, T>) -> Result<Option<Place<T::Key>>, Fault>;
 
     // Every place, from the first on.
     fn walk<S: Store<Key = T::Key>>(
@@ -37,14 +30,12 @@ pub struct Ordered;
 pub struct Unordered;
 
 impl<T: OrderedTranslator> Neighbours<T> for Ordered {
-    fn at_end<S: Store<Key = T::Key>>(
-        book: &Book<S, T>,
-        end: End,
-    ) -> Result<Option<Place<T::Key>>, Fault> {
-        Ok(match end {
-            End::First => book.first()?,
-            End::Last => book.last()?,
-        })
+    fn first<S: Store<Key = T::Key>>(book: &Book<S, T>) -> Result<Option<Place<T::Key>>, Fault> {
+        Ok(book.first()?)
+    }
+
+    fn last<S: Store<Key = T::Key>>(book: &Book<S, T>) -> Result<Option<Place<T::Key>>, Fault> {
+        Ok(book.last()?)
     }
 
     fn walk<S: Store<Key = T::Key>>(
@@ -62,10 +53,11 @@ impl<T: OrderedTranslator> Neighbours<T> for Ordered {
 }
 
 impl<T: Translator> Neighbours<T> for Unordered {
-    fn at_end<S: Store<Key = T::Key>>(
-        _book: &Book<S, T>,
-        _end: End,
-    ) -> Result<Option<Place<T::Key>>, Fault> {
+    fn first<S: Store<Key = T::Key>>(_book: &Book<S, T>) -> Result<Option<Place<T::Key>>, Fault> {
+        Err(Fault::Wrong(Reason::NoOrder))
+    }
+
+    fn last<S: Store<Key = T::Key>>(_book: &Book<S, T>) -> Result<Option<Place<T::Key>>, Fault> {
         Err(Fault::Wrong(Reason::NoOrder))
     }
 

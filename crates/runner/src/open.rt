@@ -93,6 +93,17 @@ impl<'a, K: SubKey, T: Named<Key = K>> Plan<'a, T> {
 }
 
 impl<T: Named<Key = u32>> Plan<'_, T> {
+    // By whether the windows are in a pocket.
+    fn of_numbers(self, session: &mut Session<'_>) -> Result<(), Fault>
+        ensures { Behind session.old.lines.now session.new.lines.now }
+    {
+        if in_pocket(self.opening) {
+            self.over_pocket(session)
+        } else {
+            self.by_values(session)
+        }
+    }
+
     // Over the pocket, or a pile on it.
     fn over_pocket(self, session: &mut Session<'_>) -> Result<(), Fault>
         ensures { Behind session.old.lines.now session.new.lines.now }
@@ -121,16 +132,14 @@ fn in_pocket(opening: &Opening) -> bool {
 }
 
 impl Session<'_> {
-    // Opens the book that a line names, and answers the lines up to the next opening: by the translator, and whether the windows are in a pocket.
+    // Opens the book that a line names, and answers the lines up to the next opening: by the translator.
     pub fn open(&mut self, opening: &Opening) -> Result<(), Fault>
         ensures { Behind self.old.lines.now self.new.lines.now }
     {
-        match (opening.translator, in_pocket(opening)) {
-            (TranslatorName::Cap, false) => Plan::new(opening, Cap)?.by_values(self),
-            (TranslatorName::Cap, true) => Plan::new(opening, Cap)?.over_pocket(self),
-            (TranslatorName::Fold, false) => Plan::new(opening, Fold)?.by_values(self),
-            (TranslatorName::Fold, true) => Plan::new(opening, Fold)?.over_pocket(self),
-            (TranslatorName::Label, _) => Plan::new(opening, Labels)?.by_values(self),
+        match opening.translator {
+            TranslatorName::Cap => Plan::new(opening, Cap)?.of_numbers(self),
+            TranslatorName::Fold => Plan::new(opening, Fold)?.of_numbers(self),
+            TranslatorName::Label => Plan::new(opening, Labels)?.by_values(self),
         }
     }
 }
