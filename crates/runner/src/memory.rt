@@ -9,15 +9,10 @@ use crate::subkey::SubKey;
 use crate::value::Value;
 use keys::{Key, Place};
 use script::{Opening, StoreName};
-use side::SideTable;
+use side::{CELLS as SIDE_CELLS, SideTable};
 use std::alloc::{AllocError, Global};
 use translate::Prefix;
-use windows::WindowStore;
-
-// The most cells that a window has, and that a side-table uses.
-const WINDOW: u64 = 512;
-
-const SIDE: u64 = 65536;
+use windows::{WIDEST, WindowStore};
 
 // The most cells of windows that a book is given.
 const CELLS: u64 = 268_435_456;
@@ -45,7 +40,7 @@ impl Sizes {
             StoreName::Side { cells } | StoreName::PocketPile { cells } => (0, cells),
             StoreName::Pile { window, cells } => (window, cells),
         };
-        let (lengths, window_cells) = if (1..=WINDOW).contains(&window) {
+        let (lengths, window_cells) = if (1..=WIDEST).contains(&window) {
             (partitions, partitions.checked_mul(window)?)
         } else {
             (0, 0)
@@ -59,7 +54,7 @@ impl Sizes {
             window_cells: window_cells as usize,
             lengths: lengths as usize,
             // One cell more than a side-table uses stands for every larger number, since the table is void then.
-            side_cells: side.min(SIDE + 1) as usize,
+            side_cells: side.min(SIDE_CELLS as u64 + 1) as usize,
         })
     }
 

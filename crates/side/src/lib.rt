@@ -14,7 +14,7 @@ use std::ops::Range;
 use store::{Refusal, Store};
 
 // The most cells that a table uses.
-const CELLS: usize = 65536;
+pub const CELLS: usize = 65536;
 
 // Places and values alongside, in rising order of the places: the first `len` of `cells` are in use.
 #[derive(Drop)]

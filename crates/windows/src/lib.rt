@@ -5,4 +5,4 @@ mod pocket;
 mod windows;
 
 pub use pocket::Pocket;
-pub use windows::WindowStore;
+pub use windows::{WIDEST, WindowStore};

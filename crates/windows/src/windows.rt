@@ -7,7 +7,7 @@ use layout::{Cells, Layout};
 use store::{Refusal, Store, Windowed};
 
 // The most cells of a window.
-const WIDEST: u64 = 512;
+pub const WIDEST: u64 = 512;
 
 #[derive(Drop)]
 pub struct WindowStore<'a, K: Key, V> {
