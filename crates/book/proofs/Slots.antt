@@ -1,13 +1,8 @@
 -- A run copied to the first slots, value by value. Assumes nothing.
-use Rattle.std.proofs.Common.{◌≡◌, ℕ, zero, suc, ◌+◌, ◌<◌, List, [], ◌∷◌, ◌++◌, length, get_or, drop, set, Some, None, sym, refl, ap, ◌∙◌, arith}
+use Rattle.std.proofs.Common.{◌≡◌, ℕ, zero, suc, ◌+◌, ◌<◌, List, [], ◌∷◌, length, get_or, set, Some, sym, refl, ap, ◌∙◌, arith}
 use Rattle.std.specs.List.{slice_get}
 use lib.Seq.{paste}
-use Rattle.std.proofs.lemmas.List.Edits.{paste_more, paste_all}
-
-pub absent : {X : Type 0} (xs : List X) (i : ℕ) → i < length xs → None ≡ slice_get xs i → ⊥
-absent [] i l e = omega arith
-absent (x ∷ xs) zero l e = let no : ◌≡◌ {A = ℕ} 0 1 = cc in omega arith
-absent (x ∷ xs) (suc i) l e = absent xs i (omega arith) e
+use Rattle.std.proofs.lemmas.List.Edits.{paste_more}
 
 read : {X : Type 0} (xs : List X) (i : ℕ) (x : X) → Some x ≡ slice_get xs i → get_or xs i x ≡ x
 read [] i x e = refl
@@ -22,8 +17,3 @@ module _ {X : Type 0} (slots run : List X) where
       ∙ ap (λ k. set (paste slots 0 run i) k x) z
       ∙ ap (set (paste slots 0 run i) (0 + i)) (sym (read run i x r))
       ∙ paste_more slots 0 run i x (omega arith) b
-
-  pub copied_all : (now : List X) (i n : ℕ) → i ≡ n → n ≡ length run → now ≡ paste slots 0 run i → now ≡ run ++ drop n slots
-  copied_all now i n a b e =
-      let z : 0 + n ≡ n = omega arith in
-      e ∙ ap (paste slots 0 run) a ∙ paste_all slots 0 run n b ∙ ap (λ k. run ++ drop k slots) z

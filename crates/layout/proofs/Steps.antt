@@ -33,10 +33,6 @@ module _ (ns : List ℕ) (w n : ℕ) where
   pub spare-out : (q : ℕ) → n ≤ q → spare ns w n q ≡ 0
   spare-out q h = cond-false (ltb q n) (w - get_or ns q 0) 0 (le-ltb q n h)
 
-  -- where there is space there is a partition
-  pub spare-part : (q : ℕ) → 0 < spare ns w n q → q < n
-  spare-part q h = ⊎_elim (λ a. a) (λ a. let z = spare-out q a in absurd (omega arith)) (cases_lt q n)
-
 module _ {K V : Type 0} {cmp : K → K → Ordering} (l : Lawful cmp) (ks : List K) (vs : List V) (ns : List ℕ) (w n : ℕ) (s : Sorts cmp ks vs ns w n) where
   abbrev lt : K → K → Bool
   lt = before cmp

@@ -8,34 +8,6 @@ returns-then-start-end g c =
     let r = c.range-start in
     record { sorts = c.requires; does = none-removed g.met.K.Key.lawful t.keys.now t.values.now t.lengths.now t.self.window t.self.partitions c.requires c.args.place.now r.result.start r.result.end r.ensures (omega arith) }
 
-pub remove-requires : goal.remove-requires
-remove-requires g c =
-    let t = c.args in
-    let r = c.range-start in
-    let some : r.result.start < r.result.end = omega (arith, r.ensures.ordered) in
-    let h = run_inside g.met.K.Key.lawful t.keys.now t.values.now t.lengths.now t.self.window t.self.partitions c.requires c.args.place.now r.result.start r.result.end r.ensures some in
-    record {
-      inside = run-known g.met.K.Key.lawful t.keys.now t.values.now t.lengths.now t.self.window t.self.partitions c.requires c.args.place.now r.result.start r.result.end r.ensures some;
-      cells = c.requires.keys.fit;
-      room = h.1;
-      range = r.ensures.ordered;
-      within = h.0;
-    }
-
-pub remove-requires-2 : goal.remove-requires-2
-remove-requires-2 g c =
-    let t = c.args in
-    let r = c.range-start in
-    let some : r.result.start < r.result.end = omega (arith, r.ensures.ordered) in
-    let h = run_inside g.met.K.Key.lawful t.keys.now t.values.now t.lengths.now t.self.window t.self.partitions c.requires c.args.place.now r.result.start r.result.end r.ensures some in
-    record {
-      inside = run-known g.met.K.Key.lawful t.keys.now t.values.now t.lengths.now t.self.window t.self.partitions c.requires c.args.place.now r.result.start r.result.end r.ensures some;
-      cells = c.requires.values_fit;
-      room = h.1;
-      range = r.ensures.ordered;
-      within = h.0;
-    }
-
 pub overflow_sub-lengths-2 : goal.overflow_sub-lengths-2
 overflow_sub-lengths-2 g c =
     let t = c.args in
