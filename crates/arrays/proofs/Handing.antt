@@ -67,3 +67,12 @@ module _ {K V : Type 0} {lt : K → K → Bool} (o : Total lt) (ks : List K) (vs
         }) in
         part_is (below lt ks x) n x refl stops)
         ∙ ap (handed lt (entries ks vs)) (last-parted t ks n ps)
+
+-- what a caller learns from each answer
+pub handed-none : {K V : Type 0} (lt : K → K → Bool) (es : List (Entry K V)) (c : Option K) → None ≡ handed lt es c → c ≡ None
+handed-none lt es None e = refl
+handed-none lt es (Some k) e = cc
+
+pub handed-some : {K V : Type 0} (lt : K → K → Bool) (es : List (Entry K V)) (c : Option K) (part : List V) → Some part ≡ handed lt es c → (k : K) × (c ≡ Some k) × (part ≡ run lt es k)
+handed-some lt es None part e = absurd (let z : ◌≡◌ {A = ℕ} 0 1 = cc in omega arith)
+handed-some lt es (Some k) part e = (k, refl, cc)

@@ -52,6 +52,9 @@ module _ {K V : Type 0} {cmp : K → K → Ordering} (l : Lawful cmp) (m : Meani
   last_of : (q : ℕ) (r : Option (Place K)) → r ≡ last_in cmp m q → Greatest lt (in_part q) es r
   last_of q r e = subst (Greatest lt (in_part q) es) (sym e) (greatest o (in_part q) es sound.rising)
 
+  pub bare-none : (a : ℕ) → Bare cmp m a a
+  bare-none a p x y = absurd (omega arith)
+
   bare-one : (q : ℕ) → ((p : Place K) → in_part q p ≡ true → run lt es p ≡ []) → Bare cmp m q (q + 1)
   bare-one q f p x y = f p (eq-eqb p.partition q (omega arith))
 

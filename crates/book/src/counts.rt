@@ -11,6 +11,11 @@ pub struct Counts {
 
 // Each count behind its name.
 impl fmt::Display for Counts {
+    ghost use Rattle.std.specs.Prelude.{Some};
+    ghost use Rattle.book.specs.Shown.{counts_text};
+
+    ghost output = { λ c. Some (counts_text c) };
+
     fn fmt<W: fmt::Write>(&self, f: &mut fmt::Formatter<W>) -> fmt::Result {
         let Counts {
             keys,

@@ -37,6 +37,12 @@ module _ {P V : Type 0} (t : P → Bool) where
       (λ h. ap (λ b. cond b 1 0 + amount t es) h ∙ omega (arith, no_first es (sym (ap (λ b. cond b (Some e.place) (first_that t (places es))) h) ∙ z)))
       (cases_Bool (t e.place))
 
+  pub amount-none : (es : List (Entry P V)) → amount t es ≡ 0 → first_that t (places es) ≡ None
+  amount-none [] z = refl
+  amount-none (e ∷ es) z =
+      let h = no_hit e es z in
+      ap (λ b. cond b (Some e.place) (first_that t (places es))) h.0 ∙ amount-none es h.1
+
 -- ---- the places, and the entries, that pass
 
 module _ {P : Type 0} (t : P → Bool) where

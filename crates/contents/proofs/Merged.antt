@@ -5,8 +5,9 @@ use Rattle.std.proofs.lemmas.Bool.{cases_Bool, both_ways}
 use Rattle.keys.specs.Order.{Total}
 use Rattle.contents.specs.Sorted.{below}
 use Rattle.contents.specs.Changes.{Gains}
-use Rattle.contents.specs.Entries.{Entry, places, Rising, same, run, items, placed, merged}
+use Rattle.contents.specs.Entries.{Entry, places, Rising, same, run, items, amount, placed, merged}
 use Rattle.contents.proofs.Laws.{length-in, skip, hold, same_self, same-is, gains, rising-in}
+use Rattle.contents.proofs.Amounts.{amount-in}
 
 module _ {P V : Type 0} {lt : P → P → Bool} (o : Total lt) where
   rising-placed : (e : Entry P V) (es : List (Entry P V)) → Rising lt es → Rising lt (placed lt e es)
@@ -41,3 +42,7 @@ module _ {P V : Type 0} {lt : P → P → Bool} (o : Total lt) where
   pub items-merged : (es fs : List (Entry P V)) → items (merged lt es fs) ≡ items es + items fs
   items-merged [] fs = omega arith
   items-merged (e ∷ es) fs = omega (arith, length-in (below lt (places (merged lt es fs)) e.place) (merged lt es fs) e, items-merged es fs)
+
+  pub amount-merged : (t : P → Bool) (es fs : List (Entry P V)) → amount t (merged lt es fs) ≡ amount t es + amount t fs
+  amount-merged t [] fs = omega arith
+  amount-merged t (e ∷ es) fs = omega (arith, amount-in t (below lt (places (merged lt es fs)) e.place) (merged lt es fs) e, amount-merged t es fs)

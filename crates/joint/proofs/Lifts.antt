@@ -7,7 +7,7 @@ use Rattle.keys.specs.declared.place.Place.{Place}
 use Rattle.contents.specs.Entries.{Entry, merged, none}
 use Rattle.contents.proofs.Amounts.{first-same, last-same}
 use Rattle.contents.proofs.Merged.{rising-merged, items-merged}
-use Rattle.store.specs.Meaning.{Meaning, Sound, in_part, run_at, first_in, last_in, next_in, previous_in}
+use Rattle.store.specs.Meaning.{Meaning, Sound, in_part, run_at, first_in, last_in, next_in, previous_in, void}
 use Rattle.joint.specs.Piled.{joint, live_or_void}
 
 none-length : {X : Type 0} (xs : List X) → none xs ≡ eqb (length xs) 0
@@ -19,11 +19,19 @@ module _ {K V : Type 0} (cmp : K → K → Ordering) where
   live-is true m n e = refl
   live-is false m n e = absurd (true≢false (sym e))
 
+  pub void-is : (b : Bool) (m n : Meaning K V) → b ≡ false → void ≡ live_or_void cmp b m n
+  void-is true m n e = absurd (true≢false e)
+  void-is false m n e = refl
+
   -- what holds of the joint meanings holds of a live pile's
   pub lift : (P : Meaning K V → Meaning K V → Type 0) (a b : Bool) (m n m1 n1 : Meaning K V) → a ≡ true → b ≡ a → P (joint cmp m n) (joint cmp m1 n1) → P (live_or_void cmp a m n) (live_or_void cmp b m1 n1)
   lift P true true m n m1 n1 e f d = d
   lift P true false m n m1 n1 e f d = absurd (true≢false (sym f))
   lift P false b m n m1 n1 e f d = absurd (true≢false (sym e))
+
+  pub lift_void : (P : Meaning K V → Meaning K V → Type 0) (a : Bool) (m n : Meaning K V) → a ≡ false → P void void → P (live_or_void cmp a m n) (live_or_void cmp a m n)
+  lift_void P true m n e d = absurd (true≢false e)
+  lift_void P false m n e d = d
 
   module _ (o : Total (before (place_order cmp))) where
     -- ---- the places of a partition k that has the runs of the pile

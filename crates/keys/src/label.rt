@@ -16,6 +16,11 @@ impl Key for Label {
 
 // 16 hexadecimal digits.
 impl fmt::Display for Label {
+    ghost use Rattle.std.specs.Prelude.{Some};
+    ghost use Rattle.keys.specs.Shown.{label_text};
+
+    ghost output = { λ l. Some (label_text l) };
+
     fn fmt<W: fmt::Write>(&self, f: &mut fmt::Formatter<W>) -> fmt::Result {
         for b in self.bytes {
             write!(f, "{b:02x}")?;

@@ -221,10 +221,8 @@ module _ {K V : Type 0} {ord : Ord.Ghosts K} {eqs : PartialEq.Ghosts K} {parts_o
       abbrev Takes : List (Place K) → List V → ℕ → Type 0
       Takes us ws m = Sorts cmp us ws cells m parts × TakeDone cmp (side_meaning ks vs cells n parts) (side_meaning us ws cells m parts) p i v
 
-      pub take_done : (us : List (Place K)) (ws : List V) (m : ℕ) → us ≡ ks_less → ws ≡ vs_less → m ≡ n - ((at + 1) - at) → Takes us ws m
-      take_done us ws m x y z =
-          let one : m ≡ n - 1 = omega arith in
-          subst (λ a. Takes a ws m) (sym x) (subst (λ a. Takes ks_less a m) (sym y) (subst (Takes ks_less vs_less) (sym one) (take-sorts, take-does)))
+      pub take_done : (us : List (Place K)) (ws : List V) (m : ℕ) → us ≡ ks_less → ws ≡ vs_less → m ≡ n - 1 → Takes us ws m
+      take_done us ws m x y z = subst (λ a. Takes a ws m) (sym x) (subst (λ a. Takes ks_less a m) (sym y) (subst (Takes ks_less vs_less) (sym z) (take-sorts, take-does)))
 
     -- ---- replaced
 

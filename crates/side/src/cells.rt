@@ -2,7 +2,7 @@
 ghost use Rattle.std.specs.Prelude.{◌≡◌, ◌+◌, ◌-◌, ◌<◌, ◌≤◌, length};
 ghost use Rattle.arrays.specs.Cells.{put_at, cut};
 
-use arrays::{insert_at, remove_run};
+use arrays::{insert_at, remove_at, remove_run};
 use std::ops::Range;
 
 // Puts a place and its value in at `at`.
@@ -24,6 +24,20 @@ pub fn insert<P: Copy, V: Copy>(
     insert_at(places, *len, at, place);
     insert_at(values, *len, at, value);
     *len += 1;
+}
+
+// Takes the place and the value at `at` out.
+pub fn take<P: Copy, V: Copy>(places: &mut [P], values: &mut [V], len: &mut usize, at: usize)
+    requires within { at < len.old }
+    requires places { len.old ≤ length places.old }
+    requires values { len.old ≤ length values.old }
+    ensures places { places.new ≡ cut places.old len.old at (at + 1) }
+    ensures values { values.new ≡ cut values.old len.old at (at + 1) }
+    ensures len { len.new ≡ len.old - 1 }
+{
+    remove_at(places, *len, at);
+    remove_at(values, *len, at);
+    *len -= 1;
 }
 
 // Takes a range out of both.

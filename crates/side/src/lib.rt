@@ -7,7 +7,7 @@ ghost use Rattle.std.specs.Prelude.{◌≡◌, ◌-◌, length, take};
 ghost use Rattle.contents.specs.Entries.{places};
 ghost use Rattle.side.specs.Table.{Sorts, opened, place_at};
 
-use crate::cells::{insert, remove};
+use crate::cells::{insert, remove, take};
 use arrays::{Keys, Runs};
 use keys::{Key, Place};
 use std::ops::Range;
@@ -141,7 +141,7 @@ impl<'a, K: Key, V: Copy + Drop> Store for SideTable<'a, K, V> {
     fn take(&mut self, place: &Place<K>, offset: u64) -> Result<V, Refusal> {
         let at = self.held_slot(place, offset)?;
         let value = self.values[at];
-        remove(self.keys, self.values, &mut self.len, at..at + 1);
+        take(self.keys, self.values, &mut self.len, at);
         Ok(value)
     }
 

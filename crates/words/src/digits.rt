@@ -91,5 +91,6 @@ pub fn label_bytes(word: &[u8]) -> Option<[u8; 8]>
         return None;
     }
     let (pairs, _) = word.as_array::<16>()?.as_chunks::<2>();
-    pairs.as_array::<8>()?.try_map(pair).ok()
+    let bytes = pairs.as_array::<8>()?;
+    bytes.try_map(pair).ok()
 }

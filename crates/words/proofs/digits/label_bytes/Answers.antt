@@ -20,9 +20,9 @@ pub returns : goal.returns
 returns c =
     let bs = c.args.word.now in
     let whole = c.in_ok-as_array.ensures.cases in
-    let ps = c.in_ok-as_array-2.field-0.now in
+    let ps = c.in_ok-bytes.bytes.now in
     let any : c.any.result ≡ list_any is_ascii_uppercase bs = any_from_yields_List is_ascii_uppercase _ _ _ c.any.ensures.ran (YieldsList-from_slice bs cc) (λ x b q k. search (rules, tests)) in
-    let chunks : ps ≡ first_chunks 2 (length bs / 2) bs = c.in_ok-as_array-2.ensures.cases.same ∙ rw whole.same at c.as_chunks.ensures.front in
+    let chunks : ps ≡ first_chunks 2 (length bs / 2) bs = c.in_ok-bytes.ensures.cases.same ∙ rw whole.same at c.as_chunks.ensures.front in
     let apart : pairs bs ≡ bytes_apart ps = pairs-chunks bs ps chunks (omega (arith, whole.long)) in
     let all = IfOk-weaker c.try_map.result _ (λ ys. pairs bs ≡ Some ys) (λ ys z. apart ∙ bytes_apart-all _ (λ p b k. ok_some _ WrongDigit _ (search rules)) ps ys z.whole) c.try_map.ensures.ok in
     let none = IfErr-weaker c.try_map.result _ (λ _. pairs bs ≡ None) (λ e k. apart ∙ bytes_apart-none ps k.1.0 k.0 k.1.1.0 (ap byte_at (sym k.1.1.1) ∙ err_none _ WrongDigit e (search rules))) c.try_map.ensures.err in
